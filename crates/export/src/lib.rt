@@ -1,0 +1,27 @@
+// What other languages call. A refusal comes back in one number with its place: see `refusedAs` in specs/.
+ghost use mathlib.Core.Path.{_≡_};
+ghost use Prim.Native.Nat.{_≤_};
+ghost use Rattle.table.specs.Table.{readOf};
+ghost use Rattle.export.specs.Answers.{refusedAs, readAs};
+use table::Outcome;
+use verdict::Cause;
+
+// The refusal's number in the upper 32 bits, its place in the lower ones.
+fn refused_as(cause: Cause, place: usize) -> u64
+    requires { ⌜ place ≤ 1302 ⌝ }
+    ensures { λ r. ⌜ r ≡ refusedAs cause place ⌝ }
+{
+    (table::cause_number(cause) as u64) * 4294967296 + (place as u64)
+}
+
+#[no_mangle]
+pub extern "C" fn placement_read(file: &[u8]) -> u64
+    ensures { λ r. ⌜ r ≡ readAs (readOf (now (file .entry)) .outcome) ⌝ }
+{
+    let reading = table::read(file);
+    let outcome = reading.outcome;
+    match outcome {
+        Outcome::Readable => 0,
+        Outcome::Refused(cause, place) => refused_as(cause, place),
+    }
+}

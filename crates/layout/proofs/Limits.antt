@@ -1,0 +1,37 @@
+-- The limits of the kinds. Assumes nothing.
+use Prim.Native.Nat.{ℕ, _≤_, _<_}
+use native.Mathlib.Omega.{arith}
+use lib.ListN.{getD}
+use Rattle.layout.specs.declared.Kind.{Kind}
+use Rattle.layout.specs.declared.Kind.the-variants.{Network, Processor, Task, CoResident, Exclusive, Message}
+use Rattle.layout.specs.declared.Progress.{Progress}
+use Rattle.layout.specs.Format.{row, size, Counted}
+
+pub order-below : (k : Kind) → row k .order < 6
+order-below Network = omega arith
+order-below Processor = omega arith
+order-below Task = omega arith
+order-below CoResident = omega arith
+order-below Exclusive = omega arith
+order-below Message = omega arith
+
+-- the limits of the kinds, one by one
+pub limits : (x : Progress) → Counted x
+    → (getD (x .counts) 0 0 ≤ 1) × (getD (x .counts) 1 0 ≤ 8) × (getD (x .counts) 2 0 ≤ 24) × (getD (x .counts) 3 0 ≤ 16) × (getD (x .counts) 4 0 ≤ 16) × (getD (x .counts) 5 0 ≤ 64)
+limits x h = (h .few Network, h .few Processor, h .few Task, h .few CoResident, h .few Exclusive, h .few Message)
+
+pub most-small : (k : Kind) → row k .most ≤ 64
+most-small Network = omega arith
+most-small Processor = omega arith
+most-small Task = omega arith
+most-small CoResident = omega arith
+most-small Exclusive = omega arith
+most-small Message = omega arith
+
+pub size-small : (k : Kind) → size k ≤ 22
+size-small Network = omega arith
+size-small Processor = omega arith
+size-small Task = omega arith
+size-small CoResident = omega arith
+size-small Exclusive = omega arith
+size-small Message = omega arith

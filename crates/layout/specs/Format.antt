@@ -1,0 +1,129 @@
+-- The table file's format (01, "The table file"), and where its records and fields stand.
+use mathlib.Core.Path.{_≡_}
+use mathlib.Core.Bool.{Bool, true, false}
+use mathlib.Core.List.{List, [], _∷_}
+use Prim.Native.Nat.{ℕ, _+_, _*_, _≤_}
+use lib.ListN.{length, getD}
+use Rattle.wire.specs.Wire.{number, markAt}
+use Rattle.layout.specs.declared.Kind.{Kind}
+use Rattle.layout.specs.declared.Kind.the-variants.{Network, Processor, Task, CoResident, Exclusive, Message}
+use Rattle.layout.specs.declared.Mark.{Mark}
+use Rattle.layout.specs.declared.Mark.the-variants.{Known, Unknown}
+use Rattle.layout.specs.declared.Progress.{Progress}
+use Rattle.layout.specs.declared.Shape.{Shape}
+
+-- one line of 01's table: its place in the order, the mark, the widths of the fields in bytes, how many there may be, and the first kind that may follow
+pub record Row : Type 0 where
+  pub order : ℕ
+  pub mark : List ℕ
+  pub widths : List ℕ
+  pub most : ℕ
+  pub next : ℕ
+
+-- NT capacity · PR memory, limit · TK C, T, D, memory, priority, residence · CO mask · EX mask · MS sender, receiver, amount
+-- (01, 3: a kind may follow itself, but no second NT)
+abbrev pub row : Kind → Row
+row Network = record { order = 0; mark = 78 ∷ 84 ∷ []; widths = 4 ∷ []; most = 1; next = 1 }
+row Processor = record { order = 1; mark = 80 ∷ 82 ∷ []; widths = 4 ∷ 2 ∷ []; most = 8; next = 1 }
+row Task = record { order = 2; mark = 84 ∷ 75 ∷ []; widths = 4 ∷ 4 ∷ 4 ∷ 4 ∷ 2 ∷ 2 ∷ []; most = 24; next = 2 }
+row CoResident = record { order = 3; mark = 67 ∷ 79 ∷ []; widths = 4 ∷ []; most = 16; next = 3 }
+row Exclusive = record { order = 4; mark = 69 ∷ 88 ∷ []; widths = 4 ∷ []; most = 16; next = 4 }
+row Message = record { order = 5; mark = 77 ∷ 83 ∷ []; widths = 1 ∷ 1 ∷ 4 ∷ []; most = 64; next = 5 }
+
+abbrev pub total : List ℕ → ℕ
+total [] = 0
+total (w ∷ ws) = w + total ws
+
+-- a record's bytes: the mark's two, then its fields (01: nothing stands between records)
+abbrev pub size : Kind → ℕ
+size k = 2 + total (row k .widths)
+
+-- the numbers of a kind, as the code holds them
+abbrev pub shapeOf : Kind → Shape
+shapeOf k = record { order = row k .order; size = size k; most = row k .most; next = row k .next }
+
+-- the fields of the record at a place, from the offset o on
+abbrev pub fieldsFrom : List ℕ → ℕ → List ℕ → ℕ → List ℕ
+fieldsFrom [] o s at = []
+fieldsFrom (w ∷ ws) o s at = number s (at + o) w ∷ fieldsFrom ws (o + w) s at
+
+-- field i of the record of a kind at a place
+abbrev pub field : Kind → ℕ → List ℕ → ℕ → ℕ
+field k i s at = getD (fieldsFrom (row k .widths) 2 s at) i 0
+
+abbrev pub capacity : List ℕ → ℕ → ℕ
+capacity = field Network 0
+
+abbrev pub processorMemory : List ℕ → ℕ → ℕ
+processorMemory = field Processor 0
+
+abbrev pub limit : List ℕ → ℕ → ℕ
+limit = field Processor 1
+
+abbrev pub C : List ℕ → ℕ → ℕ
+C = field Task 0
+
+abbrev pub T : List ℕ → ℕ → ℕ
+T = field Task 1
+
+abbrev pub D : List ℕ → ℕ → ℕ
+D = field Task 2
+
+abbrev pub taskMemory : List ℕ → ℕ → ℕ
+taskMemory = field Task 3
+
+abbrev pub priority : List ℕ → ℕ → ℕ
+priority = field Task 4
+
+abbrev pub residence : List ℕ → ℕ → ℕ
+residence = field Task 5
+
+abbrev pub sender : List ℕ → ℕ → ℕ
+sender = field Message 0
+
+abbrev pub receiver : List ℕ → ℕ → ℕ
+receiver = field Message 1
+
+abbrev pub amount : List ℕ → ℕ → ℕ
+amount = field Message 2
+
+-- how many records of a kind were taken
+abbrev pub count : Progress → Kind → ℕ
+count x k = getD (x .counts) (row k .order) 0
+
+-- the bytes of the records of a kind
+abbrev pub extent : Progress → Kind → ℕ
+extent x k = size k * count x k
+
+-- where the first record of a kind stands: behind all those of the kinds before it
+abbrev pub start : Progress → Kind → ℕ
+start x Network = 0
+start x Processor = extent x Network
+start x Task = extent x Network + extent x Processor
+start x CoResident = extent x Network + extent x Processor + extent x Task
+start x Exclusive = extent x Network + extent x Processor + extent x Task + extent x CoResident
+start x Message = extent x Network + extent x Processor + extent x Task + extent x CoResident + extent x Exclusive
+
+-- where record j of a kind stands
+abbrev pub place : Progress → Kind → ℕ → ℕ
+place x k j = start x k + size k * j
+
+-- the kind whose mark stands at a place
+abbrev pub firstMark : Bool → Kind → Mark → Mark
+firstMark true k m = Known k
+firstMark false k m = m
+
+unfoldable pub kindAt : List ℕ → ℕ → Mark
+kindAt s at =
+    firstMark (markAt s at (row Network .mark)) Network
+    (firstMark (markAt s at (row Processor .mark)) Processor
+    (firstMark (markAt s at (row Task .mark)) Task
+    (firstMark (markAt s at (row CoResident .mark)) CoResident
+    (firstMark (markAt s at (row Exclusive .mark)) Exclusive
+    (firstMark (markAt s at (row Message .mark)) Message
+    Unknown)))))
+
+-- no kind has more records than it may
+pub record Counted (x : Progress) : Type 0 where
+  pub kinds : length (x .counts) ≡ 6
+  pub few : (k : Kind) → count x k ≤ row k .most

@@ -1,0 +1,125 @@
+// The format of the table file: the kinds of record, their marks and sizes, and where the records of a kind stand.
+ghost use mathlib.Core.Path.{_≡_};
+ghost use Prim.Native.Nat.{_+_, _≤_};
+ghost use lib.ListN.{length};
+ghost use Rattle.layout.specs.Format.{shapeOf, kindAt, start, Counted};
+
+// The kinds of record, in the file's order.
+pub enum Kind {
+    Network,
+    Processor,
+    Task,
+    CoResident,
+    Exclusive,
+    Message,
+}
+
+// What the two bytes of a mark name.
+pub enum Mark {
+    Known(Kind),
+    Unknown,
+}
+
+// The records taken so far: how many of each kind, the first kind that may follow, the least common multiple of the periods.
+pub struct Progress {
+    pub counts: [usize; 6],
+    pub next: usize,
+    pub hyperperiod: u64,
+}
+
+// The numbers of a kind: its place in the order, a record's bytes, how many there may be, the first kind that may follow.
+pub struct Shape {
+    pub order: usize,
+    pub size: usize,
+    pub most: usize,
+    pub next: usize,
+}
+
+pub fn shape_of(kind: Kind) -> Shape
+    ensures { λ r. ⌜ r ≡ shapeOf kind ⌝ }
+{
+    match kind {
+        Kind::Network => Shape {
+            order: 0,
+            size: 6,
+            most: 1,
+            next: 1,
+        },
+        Kind::Processor => Shape {
+            order: 1,
+            size: 8,
+            most: 8,
+            next: 1,
+        },
+        Kind::Task => Shape {
+            order: 2,
+            size: 22,
+            most: 24,
+            next: 2,
+        },
+        Kind::CoResident => Shape {
+            order: 3,
+            size: 6,
+            most: 16,
+            next: 3,
+        },
+        Kind::Exclusive => Shape {
+            order: 4,
+            size: 6,
+            most: 16,
+            next: 4,
+        },
+        Kind::Message => Shape {
+            order: 5,
+            size: 8,
+            most: 64,
+            next: 5,
+        },
+    }
+}
+
+// The kind whose mark stands at a place.
+pub fn kind_at(file: &[u8], at: usize) -> Mark
+    requires { ⌜ at + 2 ≤ length (now file) ⌝ }
+    ensures { λ r. ⌜ r ≡ kindAt (now (file .entry)) at ⌝ }
+{
+    if wire::has_mark(file, at, b"NT") {
+        return Mark::Known(Kind::Network);
+    }
+    if wire::has_mark(file, at, b"PR") {
+        return Mark::Known(Kind::Processor);
+    }
+    if wire::has_mark(file, at, b"TK") {
+        return Mark::Known(Kind::Task);
+    }
+    if wire::has_mark(file, at, b"CO") {
+        return Mark::Known(Kind::CoResident);
+    }
+    if wire::has_mark(file, at, b"EX") {
+        return Mark::Known(Kind::Exclusive);
+    }
+    if wire::has_mark(file, at, b"MS") {
+        return Mark::Known(Kind::Message);
+    }
+    Mark::Unknown
+}
+
+// Where the first record of a kind stands, behind those of the kinds before it.
+pub fn first_of(x: Progress, kind: Kind) -> usize
+    requires { ⌜ Counted x ⌝ }
+    ensures { λ r. ⌜ r ≡ start x kind ⌝ }
+{
+    let processors = x.counts[0] * 6;
+    let tasks = processors + x.counts[1] * 8;
+    let co = tasks + x.counts[2] * 22;
+    let ex = co + x.counts[3] * 6;
+    let messages = ex + x.counts[4] * 6;
+    match kind {
+        Kind::Network => 0,
+        Kind::Processor => processors,
+        Kind::Task => tasks,
+        Kind::CoResident => co,
+        Kind::Exclusive => ex,
+        Kind::Message => messages,
+    }
+}

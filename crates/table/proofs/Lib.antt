@@ -1,0 +1,17 @@
+pub mod Progress
+pub mod Scanning
+pub mod Columns
+pub mod Filling
+pub mod Fine
+pub mod Ended
+pub mod Known
+pub mod Sound
+pub mod Records
+pub mod Encoded
+pub mod RecordFields
+pub mod EncodedRecords
+pub mod EncodedBytes
+pub mod Stage
+pub mod TakenRecords
+pub mod ScannedRecords
+pub mod RoundTrip

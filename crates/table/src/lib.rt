@@ -1,0 +1,497 @@
+// The table file: read whole, or refused with the first cause and its place.
+ghost use mathlib.Core.Path.{_≡_};
+ghost use Prim.Native.Nat.{_+_, _*_, _≤_, _<_};
+ghost use lib.Dec.{ltb};
+ghost use lib.ListN.{length};
+ghost use Rattle.finite.specs.Finite.{only};
+ghost use Rattle.wire.specs.Wire.{number};
+ghost use Rattle.layout.specs.Format.{row, count, Counted};
+ghost use Rattle.verdict.specs.Reached.{Reached};
+ghost use Rattle.table.specs.Scan.{noRecords, withRecord, refusal, atEnd, scanOf};
+ghost use Rattle.table.specs.Refusal.{causeNumber};
+ghost use Rattle.table.specs.Table.{column, widthOf, processorsOf, tasksOf, messagesOf, tableOf, emptyTable, readOf};
+ghost use Rattle.table.specs.Columns.{Fits, fieldOf, groupsAt};
+use layout::Kind;
+use layout::Progress;
+use verdict::Cause;
+use verdict::Verdict;
+
+// Whether a file can be read.
+pub enum Outcome {
+    Readable,
+    Refused(Cause, usize),
+}
+
+// On a refusal no record counts.
+pub struct Scanned {
+    pub outcome: Outcome,
+    pub progress: Progress,
+}
+
+pub struct Processors {
+    pub count: usize,
+    pub memory: [u32; 8],
+    pub limit: [u32; 8],
+}
+
+pub struct Tasks {
+    pub count: usize,
+    pub c: [u32; 24],
+    pub t: [u32; 24],
+    pub d: [u32; 24],
+    pub memory: [u32; 24],
+    pub priority: [u32; 24],
+    pub residence: [u32; 24],
+}
+
+pub struct Groups {
+    pub count: usize,
+    pub mask: [u32; 16],
+}
+
+pub struct Messages {
+    pub count: usize,
+    pub sender: [u32; 64],
+    pub receiver: [u32; 64],
+    pub amount: [u32; 64],
+}
+
+// The numbers of a file by kind; places beyond a count hold 0.
+pub struct Table {
+    pub capacity: u32,
+    pub processors: Processors,
+    pub tasks: Tasks,
+    pub co: Groups,
+    pub ex: Groups,
+    pub messages: Messages,
+    pub hyperperiod: u64,
+}
+
+// On a refusal the table is empty.
+pub struct Reading {
+    pub outcome: Outcome,
+    pub table: Table,
+}
+
+// The bytes of a number.
+pub enum Width {
+    One,
+    Two,
+    Four,
+}
+
+// A field of the records of a kind: where the first record stands, a record's size, the field's offset in it, and its width.
+pub struct Field {
+    pub first: usize,
+    pub size: usize,
+    pub offset: usize,
+    pub width: Width,
+}
+
+// Document 01's number of a cause.
+pub fn cause_number(cause: Cause) -> u16
+    ensures { λ r. ⌜ (r ≡ causeNumber cause) × (r ≤ 15) ⌝ }
+{
+    match cause {
+        Cause::Cut => 1,
+        Cause::UnknownMark => 2,
+        Cause::OutOfOrder => 3,
+        Cause::TooMany => 4,
+        Cause::OutOfRange => 5,
+        Cause::NotInFile => 6,
+        Cause::PriorityUsed => 7,
+        Cause::PeriodsDiffer => 8,
+        Cause::MessageRepeated => 9,
+        Cause::HyperperiodTooLarge => 10,
+        Cause::Missing => 11,
+        Cause::ShortAnswer => 12,
+        Cause::PlacementLength => 13,
+        Cause::UnknownProcessor => 14,
+        Cause::NoConflictMask => 15,
+    }
+}
+
+fn no_records() -> Progress
+    ensures { λ r. ⌜ r ≡ noRecords ⌝ }
+{
+    Progress {
+        counts: [0; 6],
+        next: 0,
+        hyperperiod: 1,
+    }
+}
+
+fn with_record(x: Progress, kind: Kind, hyperperiod: u64) -> Progress
+    requires { ⌜ Counted x × (count x kind < row kind .most) ⌝ }
+    ensures { λ r. ⌜ r ≡ withRecord x kind hyperperiod ⌝ }
+{
+    let shape = layout::shape_of(kind);
+    let order = shape.order;
+    let taken = x.counts[order];
+    let mut next = x;
+    next.counts[order] = taken + 1;
+    next.next = shape.next;
+    next.hyperperiod = hyperperiod;
+    next
+}
+
+fn refused(cause: Cause, at: usize) -> Scanned
+    ensures { λ r. ⌜ r ≡ refusal cause at ⌝ }
+{
+    Scanned {
+        outcome: Outcome::Refused(cause, at),
+        progress: no_records(),
+    }
+}
+
+// Where the file ends, there must be a record of each of the first three kinds.
+fn at_end(at: usize, x: Progress) -> Scanned
+    ensures { λ r. ⌜ r ≡ atEnd at x ⌝ }
+{
+    if x.counts[0] == 0 {
+        return refused(Cause::Missing, at);
+    }
+    if x.counts[1] == 0 {
+        return refused(Cause::Missing, at);
+    }
+    if x.counts[2] == 0 {
+        return refused(Cause::Missing, at);
+    }
+    Scanned {
+        outcome: Outcome::Readable,
+        progress: x,
+    }
+}
+
+// The records from the left, up to the first that is refused.
+fn scan(file: &[u8]) -> Scanned
+    ensures { λ r. ⌜ r ≡ scanOf (now (file .entry)) ⌝ }
+{
+    let mut at: usize = 0;
+    let mut x = no_records();
+    while at < file.len() {
+        let verdict = verdict::verdict_at(file, at, x);
+        match verdict {
+            Verdict::Refused(cause) => {
+                return refused(cause, at);
+            }
+            Verdict::Taken(kind, hyperperiod) => {
+                let shape = layout::shape_of(kind);
+                x = with_record(x, kind, hyperperiod);
+                at += shape.size;
+            }
+        }
+    }
+    at_end(at, x)
+}
+
+fn number_at(file: &[u8], at: usize, width: Width) -> u32
+    requires { ⌜ at + widthOf width ≤ length (now file) ⌝ }
+    ensures { λ r. ⌜ r ≡ number (now (file .entry)) at (widthOf width) ⌝ }
+{
+    match width {
+        Width::One => wire::byte_at(file, at),
+        Width::Two => wire::half_at(file, at),
+        Width::Four => wire::word_at(file, at),
+    }
+}
+
+// The field of record j, 0 where there are no more than j records.
+fn entry(file: &[u8], field: Field, n: usize, j: usize) -> u32
+    requires { ⌜ Fits (length (now file)) field n ⌝ }
+    ensures { λ r. ⌜ r ≡ only (ltb j n) (fieldOf (now (file .entry)) field j) ⌝ }
+{
+    if n <= j {
+        return 0;
+    }
+    let first = field.first;
+    let size = field.size;
+    let offset = field.offset;
+    let width = field.width;
+    number_at(file, first + size * j + offset, width)
+}
+
+// A field of n records into an array, zeros behind them.
+fn fill(file: &[u8], field: Field, n: usize, out: &mut [u32])
+    requires { ⌜ Fits (length (now file)) field n ⌝ }
+    ensures { λ _. ⌜ now (out .exit) ≡ column (length (now (out .entry))) n (fieldOf (now (file .entry)) field) ⌝ }
+{
+    let mut j: usize = 0;
+    while j < out.len() {
+        out[j] = entry(file, field, n, j);
+        j += 1;
+    }
+}
+
+fn processors_of(file: &[u8], x: Progress) -> Processors
+    requires { ⌜ Reached (now file) (length (now file)) x ⌝ }
+    ensures { λ r. ⌜ r ≡ processorsOf (now (file .entry)) x ⌝ }
+{
+    let first = layout::first_of(x, Kind::Processor);
+    let n = x.counts[1];
+    let mut memory = [0u32; 8];
+    let mut limit = [0u32; 8];
+    fill(
+        file,
+        Field {
+            first,
+            size: 8,
+            offset: 2,
+            width: Width::Four,
+        },
+        n,
+        &mut memory,
+    );
+    fill(
+        file,
+        Field {
+            first,
+            size: 8,
+            offset: 6,
+            width: Width::Two,
+        },
+        n,
+        &mut limit,
+    );
+    Processors {
+        count: n,
+        memory,
+        limit,
+    }
+}
+
+fn tasks_of(file: &[u8], x: Progress) -> Tasks
+    requires { ⌜ Reached (now file) (length (now file)) x ⌝ }
+    ensures { λ r. ⌜ r ≡ tasksOf (now (file .entry)) x ⌝ }
+{
+    let first = layout::first_of(x, Kind::Task);
+    let n = x.counts[2];
+    let mut c = [0u32; 24];
+    let mut t = [0u32; 24];
+    let mut d = [0u32; 24];
+    let mut memory = [0u32; 24];
+    let mut priority = [0u32; 24];
+    let mut residence = [0u32; 24];
+    fill(
+        file,
+        Field {
+            first,
+            size: 22,
+            offset: 2,
+            width: Width::Four,
+        },
+        n,
+        &mut c,
+    );
+    fill(
+        file,
+        Field {
+            first,
+            size: 22,
+            offset: 6,
+            width: Width::Four,
+        },
+        n,
+        &mut t,
+    );
+    fill(
+        file,
+        Field {
+            first,
+            size: 22,
+            offset: 10,
+            width: Width::Four,
+        },
+        n,
+        &mut d,
+    );
+    fill(
+        file,
+        Field {
+            first,
+            size: 22,
+            offset: 14,
+            width: Width::Four,
+        },
+        n,
+        &mut memory,
+    );
+    fill(
+        file,
+        Field {
+            first,
+            size: 22,
+            offset: 18,
+            width: Width::Two,
+        },
+        n,
+        &mut priority,
+    );
+    fill(
+        file,
+        Field {
+            first,
+            size: 22,
+            offset: 20,
+            width: Width::Two,
+        },
+        n,
+        &mut residence,
+    );
+    Tasks {
+        count: n,
+        c,
+        t,
+        d,
+        memory,
+        priority,
+        residence,
+    }
+}
+
+// The n groups from `first` on.
+fn groups_at(file: &[u8], first: usize, n: usize) -> Groups
+    requires { ⌜ (n ≤ 16) × (first + 6 * n ≤ length (now file)) ⌝ }
+    ensures { λ r. ⌜ r ≡ groupsAt (now (file .entry)) first n ⌝ }
+{
+    let mut mask = [0u32; 16];
+    fill(
+        file,
+        Field {
+            first,
+            size: 6,
+            offset: 2,
+            width: Width::Four,
+        },
+        n,
+        &mut mask,
+    );
+    Groups { count: n, mask }
+}
+
+fn messages_of(file: &[u8], x: Progress) -> Messages
+    requires { ⌜ Reached (now file) (length (now file)) x ⌝ }
+    ensures { λ r. ⌜ r ≡ messagesOf (now (file .entry)) x ⌝ }
+{
+    let first = layout::first_of(x, Kind::Message);
+    let n = x.counts[5];
+    let mut sender = [0u32; 64];
+    let mut receiver = [0u32; 64];
+    let mut amount = [0u32; 64];
+    fill(
+        file,
+        Field {
+            first,
+            size: 8,
+            offset: 2,
+            width: Width::One,
+        },
+        n,
+        &mut sender,
+    );
+    fill(
+        file,
+        Field {
+            first,
+            size: 8,
+            offset: 3,
+            width: Width::One,
+        },
+        n,
+        &mut receiver,
+    );
+    fill(
+        file,
+        Field {
+            first,
+            size: 8,
+            offset: 4,
+            width: Width::Four,
+        },
+        n,
+        &mut amount,
+    );
+    Messages {
+        count: n,
+        sender,
+        receiver,
+        amount,
+    }
+}
+
+fn table_of(file: &[u8], x: Progress) -> Table
+    requires { ⌜ Reached (now file) (length (now file)) x × (6 ≤ length (now file)) ⌝ }
+    ensures { λ r. ⌜ r ≡ tableOf (now (file .entry)) x ⌝ }
+{
+    let capacity = wire::word_at(file, 2);
+    let processors = processors_of(file, x);
+    let tasks = tasks_of(file, x);
+    let co = groups_at(file, layout::first_of(x, Kind::CoResident), x.counts[3]);
+    let ex = groups_at(file, layout::first_of(x, Kind::Exclusive), x.counts[4]);
+    let messages = messages_of(file, x);
+    Table {
+        capacity,
+        processors,
+        tasks,
+        co,
+        ex,
+        messages,
+        hyperperiod: x.hyperperiod,
+    }
+}
+
+fn empty() -> Table
+    ensures { λ r. ⌜ r ≡ emptyTable ⌝ }
+{
+    Table {
+        capacity: 0,
+        processors: Processors {
+            count: 0,
+            memory: [0; 8],
+            limit: [0; 8],
+        },
+        tasks: Tasks {
+            count: 0,
+            c: [0; 24],
+            t: [0; 24],
+            d: [0; 24],
+            memory: [0; 24],
+            priority: [0; 24],
+            residence: [0; 24],
+        },
+        co: Groups {
+            count: 0,
+            mask: [0; 16],
+        },
+        ex: Groups {
+            count: 0,
+            mask: [0; 16],
+        },
+        messages: Messages {
+            count: 0,
+            sender: [0; 64],
+            receiver: [0; 64],
+            amount: [0; 64],
+        },
+        hyperperiod: 1,
+    }
+}
+
+// The table of a file, or the first cause to refuse the file and its place.
+pub fn read(file: &[u8]) -> Reading
+    ensures { λ r. ⌜ r ≡ readOf (now (file .entry)) ⌝ }
+{
+    let scanned = scan(file);
+    let outcome = scanned.outcome;
+    let x = scanned.progress;
+    match outcome {
+        Outcome::Readable => Reading {
+            outcome,
+            table: table_of(file, x),
+        },
+        Outcome::Refused(_, _) => Reading {
+            outcome,
+            table: empty(),
+        },
+    }
+}

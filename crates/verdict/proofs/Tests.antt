@@ -1,0 +1,46 @@
+-- The tests against a record, by what the code compares. Assumes nothing.
+use mathlib.Core.Path.{_≡_, sym, ap, _∙_}
+use mathlib.Core.Bool.{Bool, not, _&&_}
+use mathlib.Core.List.{List}
+use Prim.Native.Nat.{ℕ, _+_, _*_, _<_}
+use native.Mathlib.Omega.{arith}
+use native.Mathlib.Decide.{ℕ-discrete}
+use borrow.Author.Tests.{eq-eqb, ne-eqb}
+use lib.Dec.{eqb}
+use Rattle.finite.specs.Finite.{someBelow}
+use Rattle.finite.proofs.Some.{some-ext}
+use Rattle.wire.specs.Wire.{number, Bytes}
+use Rattle.wire.proofs.Laws.{number-add, number-lt}
+use Rattle.layout.specs.declared.Kind.the-variants.{Task, Message}
+use Rattle.layout.specs.declared.Progress.{Progress}
+use Rattle.layout.specs.Format.{T, sender, receiver, count, start}
+use Rattle.verdict.specs.Faults.{priorityUsed, periodsDiffer, messageRepeated}
+
+module _ (s : List ℕ) (at : ℕ) (x : Progress) {first : ℕ} where
+  pub priority-by : {b : Bool} → first ≡ start x Task
+      → b ≡ someBelow (count x Task) (λ j. eqb (number s (first + 22 * j + 18) 2) (number s (at + 18) 2)) → priorityUsed s at x Task ≡ b
+  unfolding priorityUsed
+  priority-by e h = rw e at (sym h)
+
+  pub periods-by : {from to p q : ℕ} → first ≡ start x Task → from ≡ sender s at → to ≡ receiver s at
+      → p ≡ T s (first + 22 * from) → q ≡ T s (first + 22 * to) → periodsDiffer s at x Message ≡ not (eqb p q)
+  unfolding periodsDiffer
+  periods-by e f g h i = rw (h, i, e, f, g)
+
+-- two messages have one pair if their two bytes of sender and receiver are one number
+same-pair : (a b c d : ℕ) → a < 256 → c < 256 → eqb (a + 256 * b) (c + 256 * d) ≡ (eqb a c && eqb b d)
+same-pair a b c d l m = go (ℕ-discrete a c) (ℕ-discrete b d)
+  where
+    go : Dec (a ≡ c) → Dec (b ≡ d) → eqb (a + 256 * b) (c + 256 * d) ≡ (eqb a c && eqb b d)
+    go (yes e) (yes f) = rw (eq-eqb (a + 256 * b) (c + 256 * d) (omega arith), eq-eqb a c e, eq-eqb b d f)
+    go (yes e) (no f) = rw (ne-eqb (a + 256 * b) (c + 256 * d) (λ h. f (omega arith)), eq-eqb a c e, ne-eqb b d f)
+    go (no e) f = rw (ne-eqb (a + 256 * b) (c + 256 * d) (λ h. e (omega arith)), ne-eqb a c e)
+
+pair-number : (s : List ℕ) (p : ℕ) → number s (p + 2) 2 ≡ sender s p + 256 * receiver s p
+pair-number s p = number-add s (p + 2) 1 1 ∙ ap (λ (z : ℕ). number s (p + 2) 1 + 256 * number s z 1) (omega arith)
+
+module _ (s : List ℕ) (at : ℕ) (x : Progress) (bytes : Bytes s) {first : ℕ} where
+  pub message-by : {b : Bool} → first ≡ start x Message
+      → b ≡ someBelow (count x Message) (λ j. eqb (number s (first + 8 * j + 2) 2) (number s (at + 2) 2)) → messageRepeated s at x Message ≡ b
+  unfolding messageRepeated
+  message-by e h = sym (h ∙ some-ext _ _ _ (λ j l. rw (e, pair-number s (start x Message + 8 * j), pair-number s at) (same-pair _ _ _ _ (number-lt s _ 1 bytes) (number-lt s _ 1 bytes))))

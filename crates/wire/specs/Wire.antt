@@ -1,0 +1,36 @@
+-- Numbers and marks in a list of bytes. Assumes nothing.
+use mathlib.Core.Bool.{Bool, _&&_}
+use mathlib.Core.List.{List, [], _∷_, _++_}
+use Prim.Native.Nat.{ℕ, zero, suc, _+_, _*_, _/_, _%_, _<_}
+use lib.Dec.{eqb}
+use lib.ListN.{getD, take, drop}
+
+-- the value of bytes, least first (01: numbers are little-endian, unsigned)
+unfoldable pub little : List ℕ → ℕ
+little [] = 0
+little (b ∷ bs) = b + 256 * little bs
+
+-- the number of w bytes at a place
+unfoldable pub number : List ℕ → ℕ → ℕ → ℕ
+number s at w = little (take w (drop at s))
+
+-- v as w bytes, least first
+unfoldable pub bytes : ℕ → ℕ → List ℕ
+bytes zero v = []
+bytes (suc w) v = v % 256 ∷ bytes w (v / 256)
+
+-- a list of bytes
+abbrev pub Bytes : List ℕ → Type 0
+Bytes s = (k : ℕ) → getD s k 0 < 256
+
+-- the two bytes of the mark m stand at a place (01: each record begins with a two-byte mark in ASCII)
+unfoldable pub markAt : List ℕ → ℕ → List ℕ → Bool
+markAt s at m = eqb (getD s at 0) (getD m 0 0) && eqb (getD s (at + 1) 0) (getD m 1 0)
+
+-- the two bytes of a mark
+abbrev pub markBytes : List ℕ → List ℕ
+markBytes m = getD m 0 0 ∷ getD m 1 0 ∷ []
+
+-- a record of a mark and a 32-bit value (01: `NG` and a 32-bit mask each)
+unfoldable pub recordBytes : List ℕ → ℕ → List ℕ
+recordBytes m v = markBytes m ++ bytes 4 v

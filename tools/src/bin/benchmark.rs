@@ -1,0 +1,59 @@
+//! Times of the tool beside those of plain Rust. Nothing is asserted: the numbers are for reading.
+
+use std::hint::black_box;
+use std::time::Instant;
+use tools::examples::task;
+use tools::file::encode;
+use tools::generate::tables::{Shape, table};
+use tools::model::Task;
+use tools::random::Random;
+use tools::schedule::late;
+use tools::{reader, tool};
+
+const ROUNDS: usize = 9;
+const CALLS: usize = 20_000;
+
+fn main() {
+    let file = encode(&table(&mut Random::new(1), Shape::FULL));
+    let row = format!("read a file of {} bytes", file.len());
+    beside(&row, &|| tool::read(black_box(&file)), &|| reader::read_code(black_box(&file)));
+    for count in [2, 6, 12, 24] {
+        let tasks = set_in_time(count);
+        let all = (1 << count) - 1;
+        let time = median([0; ROUNDS].map(|_| nanoseconds(&|| u64::from(late(black_box(&tasks), all)))));
+        println!("lateness of {count} tasks: rust {time:.0} ns");
+    }
+}
+
+/// Tasks that load a processor to about 0.7, priorities by rising period: none is late, so that the
+/// test has to work out every response.
+fn set_in_time(count: u32) -> Vec<Task> {
+    let of_number = |number: u32| {
+        let period = [1000, 1200, 1500, 2000, 3000, 6000][(number * 6 / count) as usize];
+        task(period * 7 / 10 / count, period, period, 100 - number as u16)
+    };
+    (0..count).map(of_number).collect()
+}
+
+/// Runs both in turn, so that a slow spell of the machine meets both, and prints the medians.
+fn beside(row: &str, tool: &dyn Fn() -> u64, rust: &dyn Fn() -> u64) {
+    let mut times = [[0.0; 2]; ROUNDS];
+    for pair in &mut times {
+        *pair = [nanoseconds(tool), nanoseconds(rust)];
+    }
+    let [tool, rust] = [0, 1].map(|which| median(times.map(|pair| pair[which])));
+    println!("{row}: tool {tool:.0} ns, rust {rust:.0} ns, ratio {:.2}", tool / rust);
+}
+
+fn nanoseconds(work: &dyn Fn() -> u64) -> f64 {
+    let start = Instant::now();
+    for _ in 0..CALLS {
+        black_box(work());
+    }
+    start.elapsed().as_nanos() as f64 / CALLS as f64
+}
+
+fn median(mut times: [f64; ROUNDS]) -> f64 {
+    times.sort_by(f64::total_cmp);
+    times[ROUNDS / 2]
+}

@@ -1,0 +1,234 @@
+//! Compares a conflict check with the independent one.
+
+use crate::conflict::{conflict_code, minimal_part};
+
+use crate::file::encode;
+use crate::generate::faulty::all_meetings;
+use crate::generate::sets::{crowded_set, free_table, random_set};
+use crate::generate::tables::{Shape, table};
+use crate::model::Table;
+use crate::random::Random;
+
+/// The first input that is answered differently; codes as the C function returns them.
+#[derive(Debug)]
+pub struct Difference {
+    pub file: Vec<u8>,
+    pub mask: u32,
+    pub expected: u64,
+    pub found: u64,
+}
+
+/// How many inputs got each answer.
+#[derive(Debug, Default)]
+pub struct Tally {
+    pub no_conflict: u64,
+    pub not_minimal: u64,
+    pub minimal: u64,
+    pub bad_mask: u64,
+    pub unreadable: u64,
+}
+
+impl Tally {
+    pub fn counts(&self) -> [u64; 5] {
+        [self.no_conflict, self.not_minimal, self.minimal, self.bad_mask, self.unreadable]
+    }
+
+    fn note(&mut self, code: u64) {
+        let count = match (code >> 32, code & 0xFFFF_FFFF) {
+            (0, 0) => &mut self.no_conflict,
+            (0, 1) => &mut self.not_minimal,
+            (0, _) => &mut self.minimal,
+            (15, _) => &mut self.bad_mask,
+            _ => &mut self.unreadable,
+        };
+        *count += 1;
+    }
+}
+
+type Check<'a> = &'a dyn Fn(&[u8], u32) -> u64;
+
+struct Comparison<'a> {
+    candidate: Check<'a>,
+    random: Random,
+    tally: Tally,
+}
+
+/// Runs through generated files, each with about twenty masks.
+pub fn compare(seed: u64, files: usize, candidate: Check) -> Result<Tally, Difference> {
+    let mut comparison = Comparison { candidate, random: Random::new(seed), tally: Tally::default() };
+    for round in 0..files {
+        let table = comparison.random_table(round);
+        comparison.masks(&table)?;
+        if round.is_multiple_of(8) {
+            comparison.damaged(&table)?;
+        }
+    }
+    Ok(comparison.tally)
+}
+
+impl Comparison<'_> {
+    fn check(&mut self, file: &[u8], mask: u32) -> Result<(), Difference> {
+        let expected = conflict_code(file, mask);
+        let found = (self.candidate)(file, mask);
+        if expected != found {
+            return Err(Difference { file: file.to_vec(), mask, expected, found });
+        }
+        self.tally.note(expected);
+        Ok(())
+    }
+
+    /// Mostly tables in which some of the sets are late; now and then one at the limits of a file,
+    /// where the equation can take a million rounds.
+    fn random_table(&mut self, round: usize) -> Table {
+        let random = &mut self.random;
+        if round % 1000 == 999 {
+            let shape = Shape::random(random);
+            return table(random, shape);
+        }
+        let tasks = match random.below(2) {
+            0 => random_set(random),
+            _ => {
+                let (count, crowd) = (2 + random.below(23), random.within(2, 8));
+                crowded_set(random, count, crowd)
+            }
+        };
+        free_table(tasks, 1)
+    }
+
+    fn masks(&mut self, table: &Table) -> Result<(), Difference> {
+        let file = encode(table);
+        let all = (1 << table.tasks.len()) - 1;
+        let mut masks = vec![0, 1, all, all + 1, all | 1 << 31, u32::MAX];
+        for _ in 0..8 {
+            masks.push(self.few_tasks(table));
+            masks.push(self.random.draw() as u32 & all);
+        }
+        let minimal = minimal_part(&table.tasks, all);
+        let with_another = minimal | 1 << self.random.below(table.tasks.len());
+        masks.extend([minimal, with_another, minimal & minimal.wrapping_sub(1)]);
+        masks.into_iter().try_for_each(|mask| self.check(&file, mask))
+    }
+
+    fn few_tasks(&mut self, table: &Table) -> u32 {
+        let count = 2 + self.random.below(3);
+        (0..count).fold(0, |mask, _| mask | 1 << self.random.below(table.tasks.len()))
+    }
+
+    /// A refusal of the file comes before one of the mask.
+    fn damaged(&mut self, table: &Table) -> Result<(), Difference> {
+        let mut file = encode(table);
+        let place = self.random.below(file.len());
+        file[place] ^= 1 << self.random.below(8);
+        let mask = self.random.draw() as u32 & 7;
+        self.check(&file, mask)?;
+        let meetings = all_meetings();
+        let meeting = &meetings[self.random.below(meetings.len())];
+        let (refused, _) = meeting.file(&mut self.random);
+        self.check(&refused, mask)
+    }
+}
+
+#[cfg(test)]
+mod tests {
+    use super::*;
+    use crate::generate::sets::load;
+    use crate::model::{Task, hyperperiod};
+    use crate::reader::read;
+    use crate::schedule::{late, members};
+
+    fn detected(what: &str, wrong: Check) {
+        assert!(compare(7, 300, wrong).is_err(), "not detected: {what}");
+    }
+
+    /// Answers as the contract does, but for tasks that are changed after reading.
+    fn detected_tasks(what: &str, change: &dyn Fn(&mut Task)) {
+        detected(what, &|file, mask| match read(file) {
+            Ok(mut table) if conflict_code(file, mask) >> 32 == 0 => {
+                table.tasks.iter_mut().for_each(change);
+                conflict_code(&encode(&table), mask)
+            }
+            _ => conflict_code(file, mask),
+        });
+    }
+
+    /// Replaces an answer 0, 1 or 2.
+    fn detected_answer(what: &str, replace: &dyn Fn(&Table, u32, u64) -> u64) {
+        detected(what, &|file, mask| match (read(file), conflict_code(file, mask)) {
+            (Ok(table), answer @ 0..=2) => replace(&table, mask, answer),
+            (_, refusal) => refusal,
+        });
+    }
+
+    #[test]
+    fn the_check_is_not_suspected_itself() {
+        let tally = compare(7, 300, &conflict_code).expect("equal to itself");
+        assert!(tally.counts().iter().all(|&count| count > 20), "{tally:?}");
+    }
+
+    #[test]
+    fn wrong_answers_are_detected() {
+        detected_answer("always 0", &|_, _, _| 0);
+        detected_answer("1 and 2 exchanged", &|_, _, answer| (3 - answer) % 3);
+        detected_answer("every late set minimal", &|_, _, answer| 2 * answer.min(1));
+        detected_answer("one task tried only", &|table, mask, answer| match answer {
+            1 if !late(&table.tasks, mask & (mask - 1)) => 2,
+            _ => answer,
+        });
+        detected_answer("utilisation at most 1 taken as in time", &|table, mask, answer| {
+            let part: Vec<Task> = members(mask).map(|task| table.tasks[task]).collect();
+            if load(&part) <= hyperperiod(&part) { 0 } else { answer }
+        });
+        detected_answer("pairs only are minimal", &|_, mask, answer| match answer {
+            2 if mask.count_ones() > 2 => 1,
+            _ => answer,
+        });
+    }
+
+    /// One more job of the other task where it is released at the very tick of the response.
+    fn late_with_release_at_response(table: &Table, set: u32) -> bool {
+        let response_exists = |own: usize| {
+            let own = &table.tasks[own];
+            let higher =
+                || members(set).map(|k| &table.tasks[k]).filter(|other| other.priority > own.priority);
+            let demand =
+                |time: u32| higher().map(|other| (time / other.period + 1) * other.execution).sum::<u32>();
+            (1..=own.deadline).any(|time| own.execution + demand(time) == time)
+        };
+        members(set).any(|task| !response_exists(task))
+    }
+
+    #[test]
+    fn a_release_at_the_response_is_no_interference() {
+        detected_answer("release at R counted", &|table, mask, answer| {
+            if answer == 0 && late_with_release_at_response(table, mask) { 1 } else { answer }
+        });
+    }
+
+    #[test]
+    fn misread_tasks_are_detected() {
+        detected_tasks("deadline taken from the period", &|task| task.deadline = task.period);
+        detected_tasks("priorities the other way", &|task| task.priority = !task.priority);
+        detected_tasks("deadline one later", &|task| task.deadline = task.period.min(task.deadline + 1));
+        detected_tasks("deadline one earlier", &|task| task.deadline = task.execution.max(task.deadline - 1));
+    }
+
+    #[test]
+    fn wrong_refusals_are_detected() {
+        detected("one task is enough", &|file, mask| match conflict_code(file, mask) >> 32 {
+            15 if mask == 1 => 0,
+            _ => conflict_code(file, mask),
+        });
+        detected("unknown tasks overlooked", &|file, mask| match read(file) {
+            Ok(table) => conflict_code(file, mask & ((1 << table.tasks.len()) - 1)),
+            Err(refusal) => refusal.code(),
+        });
+        detected("the mask before the file", &|file, mask| match mask.count_ones() {
+            0 | 1 => 15 << 32,
+            _ => conflict_code(file, mask),
+        });
+        detected("place not 0", &|file, mask| match conflict_code(file, mask) {
+            code if code >> 32 == 15 => code + file.len() as u64,
+            code => code,
+        });
+    }
+}

@@ -1,0 +1,7 @@
+//! Comparisons of the tool's answers with the independent ones on many generated inputs. Each takes
+//! the answering function as a parameter, so that wrong ones can show that they would be noticed.
+
+pub mod conflicts;
+pub mod judging;
+pub mod reading;
+pub mod searching;

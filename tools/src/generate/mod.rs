@@ -1,0 +1,7 @@
+//! Random inputs, the same for the same seed.
+
+pub mod around;
+pub mod faulty;
+pub mod sets;
+pub mod small;
+pub mod tables;

@@ -1,0 +1,149 @@
+//! An independent judgement of placements, written from 01 "Judging a placement".
+
+use crate::model::{Cause, MOST_TASKS, Refusal, Table};
+use crate::reader::read;
+use crate::schedule::{members, response};
+
+#[derive(Clone, Copy, Debug, PartialEq, Eq, PartialOrd, Ord)]
+pub enum Rule {
+    Residence = 101,
+    CoResidence = 102,
+    Exclusion = 103,
+    Memory = 104,
+    Utilisation = 105,
+    Network = 106,
+    Deadline = 107,
+}
+
+/// In the order in which they are examined.
+pub const RULES: [Rule; 7] = [
+    Rule::Residence,
+    Rule::CoResidence,
+    Rule::Exclusion,
+    Rule::Memory,
+    Rule::Utilisation,
+    Rule::Network,
+    Rule::Deadline,
+];
+
+#[derive(Clone, Debug, PartialEq, Eq)]
+pub struct Judgement {
+    /// The first broken rule with the lowest number concerned.
+    pub broken: Option<(Rule, usize)>,
+    /// 0 beyond the tasks of the table.
+    pub responses: [u32; MOST_TASKS],
+}
+
+pub fn judge(file: &[u8], placement: &[u8]) -> Result<Judgement, Refusal> {
+    let table = read(file)?;
+    if placement.len() != table.tasks.len() {
+        return Err(Refusal { cause: Cause::PlacementLength, place: 0 });
+    }
+    let unknown = |&processor: &u8| usize::from(processor) >= table.processors.len();
+    if let Some(place) = placement.iter().position(unknown) {
+        return Err(Refusal { cause: Cause::UnknownProcessor, place });
+    }
+    let placed = Placed { table: &table, placement };
+    let broken = placed.first_broken();
+    let mut responses = [0; MOST_TASKS];
+    for (task, answer) in responses.iter_mut().take(placement.len()).enumerate() {
+        *answer = placed.response(task);
+    }
+    Ok(Judgement { broken, responses })
+}
+
+/// The one number of the C entry: the refusal's, or 0, or the broken rule's.
+pub fn judge_number(file: &[u8], placement: &[u8]) -> u16 {
+    match judge(file, placement) {
+        Err(refusal) => refusal.cause as u16,
+        Ok(judgement) => judgement.broken.map_or(0, |(rule, _)| rule as u16),
+    }
+}
+
+/// A placement of every task on a processor of the table.
+pub struct Placed<'a> {
+    pub table: &'a Table,
+    pub placement: &'a [u8],
+}
+
+impl Placed<'_> {
+    /// The tasks that stand on a processor.
+    pub fn on(&self, processor: usize) -> u32 {
+        let stands = |&task: &usize| usize::from(self.placement[task]) == processor;
+        (0..self.placement.len()).filter(stands).fold(0, |set, task| set | 1 << task)
+    }
+
+    fn first_broken(&self) -> Option<(Rule, usize)> {
+        RULES.into_iter().find_map(|rule| Some((rule, self.lowest_breaking(rule)?)))
+    }
+
+    /// Whether it keeps the placement rules, which are all but the deadlines.
+    pub fn keeps_rules(&self) -> bool {
+        RULES.into_iter().filter(|&rule| rule != Rule::Deadline).all(|rule| self.keeps(rule))
+    }
+
+    pub fn keeps(&self, rule: Rule) -> bool {
+        self.lowest_breaking(rule).is_none()
+    }
+
+    /// The lowest number with which this rule is broken.
+    pub fn lowest_breaking(&self, rule: Rule) -> Option<usize> {
+        let table = self.table;
+        match rule {
+            Rule::Residence => (0..table.tasks.len()).find(|&task| !self.resides(task)),
+            Rule::CoResidence => table.co_resident.iter().position(|&group| !self.together(group)),
+            Rule::Exclusion => table.exclusive.iter().position(|&group| !self.apart(group)),
+            Rule::Memory => (0..table.processors.len()).find(|&processor| !self.memory_suffices(processor)),
+            Rule::Utilisation => (0..table.processors.len()).find(|&processor| !self.within_limit(processor)),
+            Rule::Network => (!self.network_suffices()).then_some(0),
+            Rule::Deadline => (0..table.tasks.len()).find(|&task| self.response(task) == 0),
+        }
+    }
+
+    fn resides(&self, task: usize) -> bool {
+        self.table.tasks[task].residence >> self.placement[task] & 1 == 1
+    }
+
+    fn together(&self, group: u32) -> bool {
+        (0..self.table.processors.len()).any(|processor| group & !self.on(processor) == 0)
+    }
+
+    fn apart(&self, group: u32) -> bool {
+        (0..self.table.processors.len()).all(|processor| (group & self.on(processor)).count_ones() <= 1)
+    }
+
+    fn memory_suffices(&self, processor: usize) -> bool {
+        let taken: u64 =
+            members(self.on(processor)).map(|task| u64::from(self.table.tasks[task].memory)).sum();
+        taken <= u64::from(self.table.processors[processor].memory)
+    }
+
+    fn within_limit(&self, processor: usize) -> bool {
+        let limit = u64::from(self.table.processors[processor].limit);
+        1000 * self.load(processor) <= limit * u64::from(self.table.hyperperiod)
+    }
+
+    /// The work of a processor in one hyperperiod.
+    fn load(&self, processor: usize) -> u64 {
+        let hyperperiod = u64::from(self.table.hyperperiod);
+        let tasks = members(self.on(processor)).map(|task| &self.table.tasks[task]);
+        tasks.map(|task| u64::from(task.execution) * hyperperiod / u64::from(task.period)).sum()
+    }
+
+    fn network_suffices(&self) -> bool {
+        let hyperperiod = u64::from(self.table.hyperperiod);
+        let mut carried = 0;
+        for message in &self.table.messages {
+            let (sender, receiver) = (usize::from(message.sender), usize::from(message.receiver));
+            if self.placement[sender] != self.placement[receiver] {
+                let period = u64::from(self.table.tasks[sender].period);
+                carried += u64::from(message.amount) * hyperperiod / period;
+            }
+        }
+        carried <= u64::from(self.table.capacity) * hyperperiod
+    }
+
+    fn response(&self, task: usize) -> u32 {
+        response(&self.table.tasks, self.on(usize::from(self.placement[task])), task)
+    }
+}

@@ -1,0 +1,22 @@
+//! Checks the placement tool against an independent implementation, written from the contract alone.
+//!
+//! - `reader`, `schedule`, `conflict`, `judge`, `search`: the independent implementation;
+//! - `generate`: random inputs; `examples`: inputs with answers worked out by hand;
+//! - `comparison`: runs both on many inputs;
+//! - `tool`: the tool's C functions.
+//!
+//! `cargo test --lib` checks these against each other and needs nothing else. The tests in `tests/`
+//! and the benchmark call the tool: RATTLE_STATICLIB names the folder of its `libexport.a`.
+
+pub mod comparison;
+pub mod conflict;
+pub mod examples;
+pub mod file;
+pub mod generate;
+pub mod judge;
+pub mod model;
+pub mod random;
+pub mod reader;
+pub mod schedule;
+pub mod search;
+pub mod tool;

@@ -1,0 +1,210 @@
+//! Response and lateness twice over: by the tick run, and by the response equation.
+
+use crate::model::Task;
+
+/// One job of the tick run.
+struct Job {
+    task: usize,
+    released: u32,
+    had: u32,
+}
+
+/// What is seen of a set of tasks that run alone on one processor.
+pub struct Run {
+    pub late: bool,
+    /// When each task's first job was finished; 0 if it was not, or if the task is not in the set.
+    pub first_finish: Vec<u32>,
+}
+
+/// The members of a set of tasks, lowest first.
+pub fn members(mut set: u32) -> impl Iterator<Item = usize> {
+    std::iter::from_fn(move || {
+        let lowest = set.trailing_zeros() as usize;
+        set &= set.wrapping_sub(1);
+        (lowest < 32).then_some(lowest)
+    })
+}
+
+/// 01 "Response and run", tick by tick. Two hyperperiods of the set show all that it ever does.
+pub fn run(tasks: &[Task], set: u32, ticks: u32) -> Run {
+    let mut run = Run { late: false, first_finish: vec![0; tasks.len()] };
+    let mut unfinished: Vec<Job> = Vec::new();
+    for tick in 0..ticks {
+        let released = members(set).filter(|&task| tick.is_multiple_of(tasks[task].period));
+        unfinished.extend(released.map(|task| Job { task, released: tick, had: 0 }));
+        let first = |job: &&mut Job| (tasks[job.task].priority, std::cmp::Reverse(job.released));
+        if let Some(job) = unfinished.iter_mut().max_by_key(first) {
+            job.had += 1;
+            if job.had == tasks[job.task].execution && job.released == 0 {
+                run.first_finish[job.task] = tick + 1;
+            }
+        }
+        unfinished.retain(|job| job.had < tasks[job.task].execution);
+        run.late |= unfinished.iter().any(|job| tick == job.released + tasks[job.task].deadline - 1);
+    }
+    run
+}
+
+/// Whether a set is late when run alone on one processor, by the response equation.
+pub fn late(tasks: &[Task], set: u32) -> bool {
+    members(set).any(|task| response(tasks, set, task) == 0)
+}
+
+/// The least solution of the response equation among the tasks of `set`; 0 if it is above the
+/// deadline or there is none.
+pub fn response(tasks: &[Task], set: u32, task: usize) -> u32 {
+    let own = &tasks[task];
+    let higher = higher(tasks, set, own);
+    let mut response = own.execution;
+    loop {
+        let demand = demand(tasks, higher, own, response);
+        if demand > u64::from(own.deadline) {
+            return 0;
+        }
+        if demand == u64::from(response) {
+            return response;
+        }
+        response = demand as u32;
+    }
+}
+
+/// The tasks of `set` that go before `own`.
+fn higher(tasks: &[Task], set: u32, own: &Task) -> u32 {
+    members(set)
+        .filter(|&other| tasks[other].priority > own.priority)
+        .fold(0, |mask, other| mask | 1 << other)
+}
+
+/// The right side of the equation: what must be done before the task's job is finished at `time`.
+fn demand(tasks: &[Task], higher: u32, own: &Task, time: u32) -> u64 {
+    let interference = |other: &Task| u64::from(time.div_ceil(other.period)) * u64::from(other.execution);
+    u64::from(own.execution) + members(higher).map(|other| interference(&tasks[other])).sum::<u64>()
+}
+
+#[cfg(test)]
+mod tests {
+    use super::*;
+    use crate::examples::task;
+    use crate::generate::sets::{load, random_set};
+    use crate::model::hyperperiod;
+    use crate::random::Random;
+
+    fn all(tasks: &[Task]) -> u32 {
+        (1 << tasks.len()) - 1
+    }
+
+    /// The first number up to the deadline that solves the equation.
+    fn first_solution(tasks: &[Task], set: u32, task: usize) -> u32 {
+        let higher = higher(tasks, set, &tasks[task]);
+        let solves = |time: &u32| demand(tasks, higher, &tasks[task], *time) == u64::from(*time);
+        (1..=tasks[task].deadline).find(solves).unwrap_or(0)
+    }
+
+    /// What must have occurred among the random sets for the comparison to mean anything.
+    #[derive(Default, Debug)]
+    struct Seen {
+        late: usize,
+        in_time: usize,
+        full: usize,
+        just_overfull: usize,
+        response_at_deadline: usize,
+        missed_by_one: usize,
+        release_at_response: usize,
+        deadline_is_execution: usize,
+        equal_periods: usize,
+    }
+
+    impl Seen {
+        fn note(&mut self, tasks: &[Task], late: bool) {
+            let (work, hyperperiod) = (load(tasks), hyperperiod(tasks));
+            self.late += usize::from(late);
+            self.in_time += usize::from(!late);
+            self.full += usize::from(work == hyperperiod);
+            self.just_overfull += usize::from(work == hyperperiod + 1);
+            let pairs = || tasks.iter().enumerate().flat_map(|(k, a)| tasks[..k].iter().map(move |b| (a, b)));
+            self.equal_periods += usize::from(pairs().any(|(a, b)| a.period == b.period));
+        }
+
+        fn note_task(&mut self, tasks: &[Task], task: usize, run: &Run) {
+            let own = &tasks[task];
+            let finish = run.first_finish[task];
+            let released =
+                |other: &Task| other.priority > own.priority && finish.is_multiple_of(other.period);
+            self.response_at_deadline += usize::from(finish == own.deadline);
+            self.missed_by_one += usize::from(finish == own.deadline + 1);
+            self.release_at_response += usize::from(finish > 0 && tasks.iter().any(released));
+            self.deadline_is_execution += usize::from(own.deadline == own.execution);
+        }
+
+        fn least(&self) -> usize {
+            let counts = [self.late, self.in_time, self.full, self.just_overfull, self.equal_periods];
+            let more = [self.response_at_deadline, self.missed_by_one, self.release_at_response];
+            counts.into_iter().chain(more).chain([self.deadline_is_execution]).min().unwrap_or(0)
+        }
+    }
+
+    #[test]
+    fn the_tick_run_and_the_equation_agree() {
+        let mut random = Random::new(6);
+        let mut seen = Seen::default();
+        for _ in 0..200_000 {
+            let tasks = random_set(&mut random);
+            let run = run(&tasks, all(&tasks), 2 * hyperperiod(&tasks));
+            assert_eq!(run.late, late(&tasks, all(&tasks)), "{tasks:?}");
+            seen.note(&tasks, run.late);
+            for task in 0..tasks.len() {
+                let finish = run.first_finish[task];
+                let in_time = if finish <= tasks[task].deadline { finish } else { 0 };
+                assert_eq!(response(&tasks, all(&tasks), task), in_time, "{task} of {tasks:?}");
+                assert_eq!(first_solution(&tasks, all(&tasks), task), in_time, "{task} of {tasks:?}");
+                seen.note_task(&tasks, task, &run);
+            }
+        }
+        assert!(seen.least() > 5_000, "{seen:?}");
+    }
+
+    /// A part of a set runs as if the others did not exist.
+    #[test]
+    fn a_part_runs_alone() {
+        let tasks = [task(1, 4, 4, 30), task(2, 6, 6, 20), task(3, 12, 9, 10)];
+        for (set, is_late) in [(0b111, true), (0b011, false), (0b101, false), (0b110, false)] {
+            assert_eq!(run(&tasks, set, 24).late, is_late);
+            assert_eq!(late(&tasks, set), is_late);
+        }
+    }
+
+    /// 01's table of cases.
+    #[test]
+    fn cases_of_the_contract() {
+        let responses = |tasks: &[Task]| -> Vec<u32> {
+            let run = run(tasks, all(tasks), 2 * hyperperiod(tasks));
+            let found = (0..tasks.len()).map(|task| response(tasks, all(tasks), task)).collect();
+            assert_eq!(run.late, late(tasks, all(tasks)));
+            found
+        };
+        assert_eq!(responses(&[task(1, 4, 4, 3), task(2, 6, 6, 2), task(3, 12, 10, 1)]), [1, 3, 10]);
+        assert_eq!(responses(&[task(1, 4, 4, 3), task(2, 6, 6, 2), task(3, 12, 9, 1)]), [1, 3, 0]);
+        assert_eq!(responses(&[task(2, 4, 4, 2), task(2, 4, 4, 1)]), [2, 4]);
+        assert_eq!(responses(&[task(2, 4, 4, 2), task(3, 6, 6, 1)]), [2, 0]);
+        assert_eq!(responses(&[task(2, 4, 4, 1), task(3, 6, 6, 2)]), [0, 3]);
+    }
+
+    /// The upper task leaves one tick in a thousand, and the lower one needs 999 of these: the
+    /// equation takes 999 rounds to 999 + 999 × 999 = 999,000.
+    #[test]
+    fn a_thousand_rounds() {
+        for (deadline, expected) in [(1_000_000, 999_000), (999_000, 999_000), (998_999, 0)] {
+            let tasks = [task(999, 1000, 1000, 2), task(999, 1_000_000, deadline, 1)];
+            assert_eq!(response(&tasks, 3, 1), expected);
+            assert_eq!(run(&tasks, 3, 1_000_000).late, expected == 0);
+        }
+    }
+
+    /// Two tasks of C 1 and T 2 leave nothing: each round of the equation adds 2, up to the deadline.
+    #[test]
+    fn no_solution() {
+        let tasks = [task(1, 2, 2, 3), task(1, 2, 2, 2), task(1, 2000, 2000, 1)];
+        assert_eq!(response(&tasks, 7, 2), 0);
+        assert_eq!(run(&tasks, 7, 4000).first_finish, [1, 2, 0]);
+    }
+}

@@ -1,0 +1,20 @@
+//! The tool's C functions.
+
+mod c {
+    unsafe extern "C" {
+        pub fn placement_read(file: *const u8, length: usize) -> u64;
+        pub fn placement_conflict(file: *const u8, length: usize, mask: u32) -> u64;
+    }
+}
+
+/// 0 if the file is read, else the refusal's number × 2^32 + its place.
+pub fn read(file: &[u8]) -> u64 {
+    // SAFETY: the slice is valid during the call, and the function only reads it.
+    unsafe { c::placement_read(file.as_ptr(), file.len()) }
+}
+
+/// The refusal's number × 2^32 + its place, or 0 no conflict, 1 late but not minimal, 2 minimal.
+pub fn conflict(file: &[u8], mask: u32) -> u64 {
+    // SAFETY: the slice is valid during the call, and the function only reads it.
+    unsafe { c::placement_conflict(file.as_ptr(), file.len(), mask) }
+}
