@@ -39,8 +39,11 @@ abbrev pub size : Kind → ℕ
 size k = 2 + total (row k .widths)
 
 -- the numbers of a kind, as the code holds them
+abbrev pub shape : ℕ → ℕ → ℕ → ℕ → Shape
+shape order size most next = record { order = order; size = size; most = most; next = next }
+
 abbrev pub shapeOf : Kind → Shape
-shapeOf k = record { order = row k .order; size = size k; most = row k .most; next = row k .next }
+shapeOf k = shape (row k .order) (size k) (row k .most) (row k .next)
 
 -- the fields of the record at a place, from the offset o on
 abbrev pub fieldsFrom : List ℕ → ℕ → List ℕ → ℕ → List ℕ

@@ -2,7 +2,7 @@
 ghost use mathlib.Core.Path.{_≡_};
 ghost use Prim.Native.Nat.{_+_, _≤_};
 ghost use lib.ListN.{length};
-ghost use Rattle.layout.specs.Format.{shapeOf, kindAt, start, Counted};
+ghost use Rattle.layout.specs.Format.{shape, shapeOf, kindAt, start, Counted};
 
 // The kinds of record, in the file's order.
 pub enum Kind {
@@ -35,46 +35,29 @@ pub struct Shape {
     pub next: usize,
 }
 
+impl Shape {
+    pub fn new(order: usize, size: usize, most: usize, next: usize) -> Self
+        ensures { λ r. ⌜ r ≡ shape order size most next ⌝ }
+    {
+        Self {
+            order,
+            size,
+            most,
+            next,
+        }
+    }
+}
+
 pub fn shape_of(kind: Kind) -> Shape
     ensures { λ r. ⌜ r ≡ shapeOf kind ⌝ }
 {
     match kind {
-        Kind::Network => Shape {
-            order: 0,
-            size: 6,
-            most: 1,
-            next: 1,
-        },
-        Kind::Processor => Shape {
-            order: 1,
-            size: 8,
-            most: 8,
-            next: 1,
-        },
-        Kind::Task => Shape {
-            order: 2,
-            size: 22,
-            most: 24,
-            next: 2,
-        },
-        Kind::CoResident => Shape {
-            order: 3,
-            size: 6,
-            most: 16,
-            next: 3,
-        },
-        Kind::Exclusive => Shape {
-            order: 4,
-            size: 6,
-            most: 16,
-            next: 4,
-        },
-        Kind::Message => Shape {
-            order: 5,
-            size: 8,
-            most: 64,
-            next: 5,
-        },
+        Kind::Network => Shape::new(0, 6, 1, 1),
+        Kind::Processor => Shape::new(1, 8, 8, 1),
+        Kind::Task => Shape::new(2, 22, 24, 2),
+        Kind::CoResident => Shape::new(3, 6, 16, 3),
+        Kind::Exclusive => Shape::new(4, 6, 16, 4),
+        Kind::Message => Shape::new(5, 8, 64, 5),
     }
 }
 

@@ -44,7 +44,7 @@ module _ {places n : ℕ} {f : ℕ → ℕ} {j : ℕ} {out : List ℕ} (w : Fill
 
 -- the records of a kind lie within a file that was scanned to its end, and so does each of their fields
 pub fits-of : {s : List ℕ} {x : Progress} → Reached s (length s) x → (k : Kind) {first : ℕ} → first ≡ start x k → (o : ℕ) (w : Width) → o + widthOf w ≤ size k
-    → Fits (length s) (record { first = first; size = size k; offset = o; width = w }) (count x k)
+    → Fits (length s) first (size k) o w (count x k)
 fits-of {s} {x} r k e o w l = record {
   few = omega (arith, r .counted .few k, most-small k);
   short = size-small k;
@@ -61,6 +61,5 @@ fits-of {s} {x} r k e o w l = record {
     within Message = omega (arith, r .ends)
 
 -- a column read from the same first record
-pub column-from : (s : List ℕ) (p n size o : ℕ) (w : Width) {first first′ : ℕ} → first ≡ first′
-    → column p n (fieldOf s (record { first = first; size = size; offset = o; width = w })) ≡ column p n (fieldOf s (record { first = first′; size = size; offset = o; width = w }))
-column-from s p n size o w e = ap (λ (f : ℕ). column p n (fieldOf s (record { first = f; size = size; offset = o; width = w }))) e
+pub column-from : (s : List ℕ) (p n size o : ℕ) (w : Width) {first first′ : ℕ} → first ≡ first′ → column p n (fieldOf s first size o w) ≡ column p n (fieldOf s first′ size o w)
+column-from s p n size o w e = ap (λ (f : ℕ). column p n (fieldOf s f size o w)) e

@@ -80,14 +80,6 @@ pub enum Width {
     Four,
 }
 
-// A field of the records of a kind: where the first record stands, a record's size, the field's offset in it, and its width.
-pub struct Field {
-    pub first: usize,
-    pub size: usize,
-    pub offset: usize,
-    pub width: Width,
-}
-
 // Document 01's number of a cause.
 pub fn cause_number(cause: Cause) -> u16
     ensures { λ r. ⌜ (r ≡ causeNumber cause) × (r ≤ 15) ⌝ }
@@ -197,28 +189,40 @@ fn number_at(file: &[u8], at: usize, width: Width) -> u32
 }
 
 // The field of record j, 0 where there are no more than j records.
-fn entry(file: &[u8], field: Field, n: usize, j: usize) -> u32
-    requires { ⌜ Fits (length (now file)) field n ⌝ }
-    ensures { λ r. ⌜ r ≡ only (ltb j n) (fieldOf (now (file .entry)) field j) ⌝ }
+fn entry(
+    file: &[u8],
+    first: usize,
+    size: usize,
+    offset: usize,
+    width: Width,
+    n: usize,
+    j: usize,
+) -> u32
+    requires { ⌜ Fits (length (now file)) first size offset width n ⌝ }
+    ensures { λ r. ⌜ r ≡ only (ltb j n) (fieldOf (now (file .entry)) first size offset width j) ⌝ }
 {
     if n <= j {
         return 0;
     }
-    let first = field.first;
-    let size = field.size;
-    let offset = field.offset;
-    let width = field.width;
     number_at(file, first + size * j + offset, width)
 }
 
-// A field of n records into an array, zeros behind them.
-fn fill(file: &[u8], field: Field, n: usize, out: &mut [u32])
-    requires { ⌜ Fits (length (now file)) field n ⌝ }
-    ensures { λ _. ⌜ now (out .exit) ≡ column (length (now (out .entry))) n (fieldOf (now (file .entry)) field) ⌝ }
+// A field of n records into an array, zeros behind them. The records stand from `first` on.
+fn fill(
+    file: &[u8],
+    first: usize,
+    size: usize,
+    offset: usize,
+    width: Width,
+    n: usize,
+    out: &mut [u32],
+)
+    requires { ⌜ Fits (length (now file)) first size offset width n ⌝ }
+    ensures { λ _. ⌜ now (out .exit) ≡ column (length (now (out .entry))) n (fieldOf (now (file .entry)) first size offset width) ⌝ }
 {
     let mut j: usize = 0;
     while j < out.len() {
-        out[j] = entry(file, field, n, j);
+        out[j] = entry(file, first, size, offset, width, n, j);
         j += 1;
     }
 }
@@ -231,28 +235,8 @@ fn processors_of(file: &[u8], x: Progress) -> Processors
     let n = x.counts[1];
     let mut memory = [0u32; 8];
     let mut limit = [0u32; 8];
-    fill(
-        file,
-        Field {
-            first,
-            size: 8,
-            offset: 2,
-            width: Width::Four,
-        },
-        n,
-        &mut memory,
-    );
-    fill(
-        file,
-        Field {
-            first,
-            size: 8,
-            offset: 6,
-            width: Width::Two,
-        },
-        n,
-        &mut limit,
-    );
+    fill(file, first, 8, 2, Width::Four, n, &mut memory);
+    fill(file, first, 8, 6, Width::Two, n, &mut limit);
     Processors {
         count: n,
         memory,
@@ -272,72 +256,12 @@ fn tasks_of(file: &[u8], x: Progress) -> Tasks
     let mut memory = [0u32; 24];
     let mut priority = [0u32; 24];
     let mut residence = [0u32; 24];
-    fill(
-        file,
-        Field {
-            first,
-            size: 22,
-            offset: 2,
-            width: Width::Four,
-        },
-        n,
-        &mut c,
-    );
-    fill(
-        file,
-        Field {
-            first,
-            size: 22,
-            offset: 6,
-            width: Width::Four,
-        },
-        n,
-        &mut t,
-    );
-    fill(
-        file,
-        Field {
-            first,
-            size: 22,
-            offset: 10,
-            width: Width::Four,
-        },
-        n,
-        &mut d,
-    );
-    fill(
-        file,
-        Field {
-            first,
-            size: 22,
-            offset: 14,
-            width: Width::Four,
-        },
-        n,
-        &mut memory,
-    );
-    fill(
-        file,
-        Field {
-            first,
-            size: 22,
-            offset: 18,
-            width: Width::Two,
-        },
-        n,
-        &mut priority,
-    );
-    fill(
-        file,
-        Field {
-            first,
-            size: 22,
-            offset: 20,
-            width: Width::Two,
-        },
-        n,
-        &mut residence,
-    );
+    fill(file, first, 22, 2, Width::Four, n, &mut c);
+    fill(file, first, 22, 6, Width::Four, n, &mut t);
+    fill(file, first, 22, 10, Width::Four, n, &mut d);
+    fill(file, first, 22, 14, Width::Four, n, &mut memory);
+    fill(file, first, 22, 18, Width::Two, n, &mut priority);
+    fill(file, first, 22, 20, Width::Two, n, &mut residence);
     Tasks {
         count: n,
         c,
@@ -355,17 +279,7 @@ fn groups_at(file: &[u8], first: usize, n: usize) -> Groups
     ensures { λ r. ⌜ r ≡ groupsAt (now (file .entry)) first n ⌝ }
 {
     let mut mask = [0u32; 16];
-    fill(
-        file,
-        Field {
-            first,
-            size: 6,
-            offset: 2,
-            width: Width::Four,
-        },
-        n,
-        &mut mask,
-    );
+    fill(file, first, 6, 2, Width::Four, n, &mut mask);
     Groups { count: n, mask }
 }
 
@@ -378,39 +292,9 @@ fn messages_of(file: &[u8], x: Progress) -> Messages
     let mut sender = [0u32; 64];
     let mut receiver = [0u32; 64];
     let mut amount = [0u32; 64];
-    fill(
-        file,
-        Field {
-            first,
-            size: 8,
-            offset: 2,
-            width: Width::One,
-        },
-        n,
-        &mut sender,
-    );
-    fill(
-        file,
-        Field {
-            first,
-            size: 8,
-            offset: 3,
-            width: Width::One,
-        },
-        n,
-        &mut receiver,
-    );
-    fill(
-        file,
-        Field {
-            first,
-            size: 8,
-            offset: 4,
-            width: Width::Four,
-        },
-        n,
-        &mut amount,
-    );
+    fill(file, first, 8, 2, Width::One, n, &mut sender);
+    fill(file, first, 8, 3, Width::One, n, &mut receiver);
+    fill(file, first, 8, 4, Width::Four, n, &mut amount);
     Messages {
         count: n,
         sender,

@@ -4,16 +4,16 @@ use native.Mathlib.Nat.{mul-add, mul-one, mul-le-mul-left, mul-le-mul}
 use native.Mathlib.Omega.{arith}
 use borrow.Author.Tests.{lt-ltb, le-ltb}
 use borrow.Author.Needs.{needs}
-use Rattle.table.specs.declared.Field.{Field}
+use Rattle.table.specs.declared.Width.{Width}
 use Rattle.table.specs.Columns.{Fits}
 use Rattle.table.proofs.entry.Statement.{statement}
 use Rattle.table.proofs.entry.Tie as tie
 
 -- record j lies within the file
-room : {len : ℕ} {f : Field} {n j : ℕ} → Fits len f n → j < n → (f .first + f .size * j + f .size ≤ len) × (f .size * j ≤ 1408)
-room {f = f} {n = n} {j = j} h l =
-    let up : f .size * (j + 1) ≤ f .size * n = mul-le-mul-left (f .size) (omega arith) in
-    (omega (arith, h .rows, mul-add (f .size) j 1, mul-one (f .size)), omega (arith, mul-le-mul (h .short) (h .few), mul-add (f .size) j 1))
+room : {len first size offset : ℕ} {width : Width} {n j : ℕ} → Fits len first size offset width n → j < n → (first + size * j + size ≤ len) × (size * j ≤ 1408)
+room {size = size} {n = n} {j = j} h l =
+    let up : size * (j + 1) ≤ size * n = mul-le-mul-left size (omega arith) in
+    (omega (arith, h .rows, mul-add size j 1, mul-one size), omega (arith, mul-le-mul (h .short) (h .few), mul-add size j 1))
 
 pub entry-spec : {M : Type 1} → statement M
 entry-spec =

@@ -9,10 +9,10 @@ use Rattle.table.proofs.fill.Statement.{statement}
 use Rattle.table.proofs.fill.Tie as tie
 
 abbrev Inv-loop : tie.InvT-loop
-Inv-loop file field n out₀ j₀ out j = Filled (length out₀) n (fieldOf file field) j out
+Inv-loop file first size offset width n out₀ j₀ out j = Filled (length out₀) n (fieldOf file first size offset width) j out
 
 abbrev μ-loop : tie.MeasureT-loop
-μ-loop file field n out₀ j₀ out j = length out₀ - j
+μ-loop file first size offset width n out₀ j₀ out j = length out₀ - j
 
 pub fill-spec : {M : Type 1} → statement M
 fill-spec =
