@@ -2,7 +2,9 @@
 ghost use mathlib.Core.Path.{_≡_};
 ghost use Prim.Native.Nat.{_≤_};
 ghost use Rattle.table.specs.Table.{readOf};
-ghost use Rattle.export.specs.Answers.{refusedAs, readAs};
+ghost use Rattle.conflict.specs.Entry.{answerOf};
+ghost use Rattle.export.specs.Answers.{refusedAs, readAs, conflictAs};
+use conflict::Answer;
 use table::Outcome;
 use verdict::Cause;
 
@@ -23,5 +25,16 @@ pub extern "C" fn placement_read(file: &[u8]) -> u64
     match outcome {
         Outcome::Readable => 0,
         Outcome::Refused(cause, place) => refused_as(cause, place),
+    }
+}
+
+#[no_mangle]
+pub extern "C" fn placement_conflict(file: &[u8], mask: u32) -> u64
+    ensures { λ r. ⌜ r ≡ conflictAs (answerOf (now (file .entry)) mask) ⌝ }
+{
+    let answer = conflict::check_conflict(file, mask);
+    match answer {
+        Answer::Refused(cause, place) => refused_as(cause, place),
+        Answer::Found(finding) => conflict::number(finding),
     }
 }

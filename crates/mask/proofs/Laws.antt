@@ -14,16 +14,10 @@ use lib.Pow.{shl-exact, pow-add, pow-mono, pow-pos, shr-shr}
 use Rattle.finite.specs.Finite.{only, sumTo}
 use Rattle.finite.proofs.Sum.{sum-at, sum-ext}
 use Rattle.finite.proofs.First.{First, first, found, missing}
+use Rattle.mask.proofs.Tests.{same-test, and-both, and-left, and-right}
 use Rattle.mask.specs.Mask.{bit, has, Subset, within, below, size, insertOf, removeOf, lowestOf, maskOf}
 
 -- ---- a digit is 1 or 0 as the test says
-
--- two tests that pass together
-pub same-test : (a b : Bool) → (T a → T b) → (T b → T a) → a ≡ b
-same-test true true f g = refl
-same-test true false f g = absurd (f tt)
-same-test false true f g = absurd (g tt)
-same-test false false f g = refl
 
 -- a digit given as a test, and back
 pub has-of : (m k : ℕ) (b : Bool) → bit m k ≡ only b 1 → has m k ≡ b
@@ -115,18 +109,12 @@ pub remove-lt : (m k : ℕ) → T (has m k) → removeOf m k < m
 remove-lt m k t = rw (and-pow m k, eqb→eq (bit m k) 1 t) (omega (arith, pow-pos k, one-mul (2 ^ k), rw (eqb→eq (bit m k) 1 t) at (digit-le m k)))
 
 pub remove-subset : (m k : ℕ) → Subset (removeOf m k) m
-remove-subset m k j t = right (not (eqb j k)) (has m j) (rw (has-remove m k j) at t)
-  where
-    right : (a b : Bool) → T (a && b) → T b
-    right true b u = u
-    right false b u = absurd u
+remove-subset m k j t = and-right (not (eqb j k)) (has m j) (rw (has-remove m k j) at t)
 
 pub remove-mono : (c s k : ℕ) → Subset c s → Subset (removeOf c k) (removeOf s k)
-remove-mono c s k sub j t = rw (has-remove s k j) (widen (not (eqb j k)) (has c j) (has s j) (sub j) (rw (has-remove c k j) at t))
-  where
-    widen : (a b d : Bool) → (T b → T d) → T (a && b) → T (a && d)
-    widen true b d f u = f u
-    widen false b d f u = u
+remove-mono c s k sub j t =
+    let u = rw (has-remove c k j) at t in
+    rw (has-remove s k j) (and-both (not (eqb j k)) (has s j) (and-left (not (eqb j k)) (has c j) u) (sub j (and-right (not (eqb j k)) (has c j) u)))
 
 pub remove-not : (m k : ℕ) → T (has (removeOf m k) k) → ⊥
 remove-not m k t = rw (has-remove m k k, eq-eqb k k refl) at t
@@ -218,19 +206,13 @@ none-above n m = same-test (eqb (m / 2 ^ n) 0) (below n m)
 -- ---- subsets
 
 pub subset-within : (c s : ℕ) → Subset c s → T (within c s)
-subset-within c s sub = rw (ext c {a = bitAnd c s} {b = c} (lt-of-le-of-lt (and-le-l c s) (lt-two-pow c)) (lt-two-pow c) (λ k l. has-and c s k ∙ both (has c k) (has s k) (sub k))) (eqb-refl c)
+subset-within c s sub = rw (ext c {a = bitAnd c s} {b = c} (lt-of-le-of-lt (and-le-l c s) (lt-two-pow c)) (lt-two-pow c) (λ k l. has-and c s k ∙ same k)) (eqb-refl c)
   where
-    both : (a b : Bool) → (T a → T b) → (a && b) ≡ a
-    both true true f = refl
-    both true false f = absurd (f tt)
-    both false b f = refl
+    same : (k : ℕ) → (has c k && has s k) ≡ has c k
+    same k = same-test (has c k && has s k) (has c k) (and-left (has c k) (has s k)) (λ t. and-both (has c k) (has s k) t (sub k t))
 
 pub within-subset : (c s : ℕ) → T (within c s) → Subset c s
-within-subset c s t k h = right (has c k) (has s k) (rw (has-and c s k) at (rw (← eqb→eq (bitAnd c s) c t) at h))
-  where
-    right : (a b : Bool) → T (a && b) → T b
-    right true b u = u
-    right false b u = absurd u
+within-subset c s t k h = and-right (has c k) (has s k) (rw (has-and c s k) at (rw (← eqb→eq (bitAnd c s) c t) at h))
 
 -- ---- sums over the members, and the size
 

@@ -18,6 +18,10 @@ use Rattle.verdict.specs.declared.Verdict.the-variants.{Taken, Refused}
 use Rattle.layout.specs.declared.Progress.{Progress}
 use Rattle.layout.specs.Format.{row, size, field, kindAt, limit, C, T, D, priority, residence, sender, receiver, amount, count, place}
 
+-- the record is of the kind that a test concerns
+abbrev pub is : Kind → Kind → Bool
+is k j = eqb (row k .order) (row j .order)
+
 -- ---- the tests, in the order of the causes; s is the file, at the record's place, x what was taken before it
 
 -- 1: the bytes run out within the mark, or within the record
@@ -68,40 +72,24 @@ notInFile s at x Exclusive = badGroup (count x Task) (field Exclusive 0 s at)
 notInFile s at x Message = badPair (count x Task) (sender s at) (receiver s at)
 
 -- 7: the priority of an earlier task
-abbrev pub isTask : Kind → Bool
-isTask Network = false
-isTask Processor = false
-isTask Task = true
-isTask CoResident = false
-isTask Exclusive = false
-isTask Message = false
-
 unfoldable pub priorityUsed : List ℕ → ℕ → Progress → Kind → Bool
-priorityUsed s at x k = isTask k && someBelow (count x Task) (λ j. eqb (priority s (place x Task j)) (priority s at))
+priorityUsed s at x k = is k Task && someBelow (count x Task) (λ j. eqb (priority s (place x Task j)) (priority s at))
 
 -- 8: sender and receiver differ in period
-abbrev pub isMessage : Kind → Bool
-isMessage Network = false
-isMessage Processor = false
-isMessage Task = false
-isMessage CoResident = false
-isMessage Exclusive = false
-isMessage Message = true
-
 unfoldable pub periodsDiffer : List ℕ → ℕ → Progress → Kind → Bool
-periodsDiffer s at x k = isMessage k && not (eqb (T s (place x Task (sender s at))) (T s (place x Task (receiver s at))))
+periodsDiffer s at x k = is k Message && not (eqb (T s (place x Task (sender s at))) (T s (place x Task (receiver s at))))
 
 -- 9: sender and receiver of an earlier message
 unfoldable pub messageRepeated : List ℕ → ℕ → Progress → Kind → Bool
 messageRepeated s at x k =
-    isMessage k && someBelow (count x Message) (λ j. eqb (sender s (place x Message j)) (sender s at) && eqb (receiver s (place x Message j)) (receiver s at))
+    is k Message && someBelow (count x Message) (λ j. eqb (sender s (place x Message j)) (sender s at) && eqb (receiver s (place x Message j)) (receiver s at))
 
 -- 10: the least common multiple of the periods, this one among them, passes its limit
 abbrev pub hyperperiodWith : List ℕ → ℕ → Progress → Kind → ℕ
-hyperperiodWith s at x k = cond (isTask k) (lcm (x .hyperperiod) (T s at)) (x .hyperperiod)
+hyperperiodWith s at x k = cond (is k Task) (lcm (x .hyperperiod) (T s at)) (x .hyperperiod)
 
 unfoldable pub hyperperiodTooLarge : List ℕ → ℕ → Progress → Kind → Bool
-hyperperiodTooLarge s at x k = isTask k && ltb 1000000000 (hyperperiodWith s at x k)
+hyperperiodTooLarge s at x k = is k Task && ltb 1000000000 (hyperperiodWith s at x k)
 
 -- ---- the order: "mark cut (1), 2, record cut (1), then 3 to 10 rising"
 

@@ -82,7 +82,7 @@ fn bad_residence(processors: usize, residence: u32) -> bool
     true
 }
 
-fn bad_group(tasks: usize, group: u32) -> bool
+pub fn bad_group(tasks: usize, group: u32) -> bool
     requires { ⌜ tasks < 32 ⌝ }
     ensures { λ r. ⌜ r ≡ badGroup tasks group ⌝ }
 {

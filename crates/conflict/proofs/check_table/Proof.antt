@@ -1,0 +1,16 @@
+-- `check_table` meets its contract. Assumes nothing.
+use mathlib.Core.Path.{sym, _∙_}
+use borrow.Author.Needs.{needs}
+use Rattle.conflict.proofs.Limits.{limits-of}
+use Rattle.conflict.proofs.check_table.Statement.{statement}
+use Rattle.conflict.proofs.check_table.Tie as tie
+
+pub check-table-spec : {M : Type 1} → statement M
+check-table-spec =
+    tie.close
+    (tie.spec
+    (λ c κs. search needs)  -- bad-group-requires
+    (λ c. record { value = simp (sym (c .before .bad-group .ensures) ∙ c .if1 .taken); right = tt })  -- returns
+    (λ c κs. search needs)  -- higher-requires
+    (λ c κs. let e = c .before .before .before .before .before .before .before .before .before .before .before in rw (c .before .before .before .before .before .higher .ensures) (limits-of (e .before .before .before .pre) _ (sym (e .before .bad-group .ensures) ∙ e .if1 .left)))  -- classify-requires
+    (λ c. let e = c .before .before .before .before .before .before .before .before .before .before .before .before in record { value = simp (sym (e .before .bad-group .ensures) ∙ e .if1 .left, c .classify .ensures .value); right = c .classify .ensures .right }))  -- returns-2

@@ -1,0 +1,120 @@
+// Conflicts: whether a late set of tasks is minimal, and a minimal one within a late set.
+ghost use mathlib.Core.Path.{_≡_};
+ghost use Rattle.mask.specs.Mask.{has};
+ghost use Rattle.schedule.specs.Periodic.{LateSet};
+ghost use Rattle.schedule.specs.Arrays.{tasksOf, InLimits};
+ghost use Rattle.table.specs.Sound.{Sound};
+ghost use Rattle.conflict.specs.Conflict.{numberOf, Checked, MinimalWithin};
+ghost use Rattle.conflict.specs.Entry.{Answered, AnsweredFor};
+use table::Outcome;
+use table::Table;
+use verdict::Cause;
+
+// What a conflict check finds. numberOf of specs/Conflict.antt gives its number.
+pub enum Finding {
+    NoConflict,
+    NotMinimal,
+    MinimalConflict,
+}
+
+// Document 01's number of a finding.
+pub fn number(finding: Finding) -> u64
+    ensures { λ r. ⌜ r ≡ numberOf finding ⌝ }
+{
+    match finding {
+        Finding::NoConflict => 0,
+        Finding::NotMinimal => 1,
+        Finding::MinimalConflict => 2,
+    }
+}
+
+// The answer to a conflict check: a refusal with its place, or what was found.
+pub enum Answer {
+    Refused(Cause, usize),
+    Found(Finding),
+}
+
+// Whether the set is late, and stays so with some task left out.
+pub fn classify<'a>(
+    c: &'a [u32; 24],
+    t: &'a [u32; 24],
+    d: &'a [u32; 24],
+    priority: &'a [u32; 24],
+    higher: &'a [u32; 24],
+    n: usize,
+    set: u32,
+) -> Finding
+    requires { ⌜ InLimits n (now c) (now t) (now d) (now priority) (now higher) set ⌝ }
+    ensures { λ r. ⌜ Checked (tasksOf n (now (c .entry)) (now (t .entry)) (now (d .entry)) (now (priority .entry))) set r ⌝ }
+{
+    if !schedule::is_late(c, t, d, priority, higher, n, set) {
+        return Finding::NoConflict;
+    }
+    let mut untried = set;
+    while untried != 0 {
+        let k = mask::lowest(untried);
+        let rest = mask::remove(set, k);
+        if schedule::is_late(c, t, d, priority, higher, n, rest) {
+            return Finding::NotMinimal;
+        }
+        untried = mask::remove(untried, k);
+    }
+    Finding::MinimalConflict
+}
+
+// A minimal conflict within a late set: each task in turn is dropped if the rest stays late.
+pub fn extract<'a>(
+    c: &'a [u32; 24],
+    t: &'a [u32; 24],
+    d: &'a [u32; 24],
+    priority: &'a [u32; 24],
+    higher: &'a [u32; 24],
+    n: usize,
+    set: u32,
+) -> u32
+    requires { ⌜ InLimits n (now c) (now t) (now d) (now priority) (now higher) set × LateSet (tasksOf n (now c) (now t) (now d) (now priority)) (has set) ⌝ }
+    ensures { λ r. ⌜ MinimalWithin (tasksOf n (now (c .entry)) (now (t .entry)) (now (d .entry)) (now (priority .entry))) set r ⌝ }
+{
+    let mut kept = set;
+    let mut left = set;
+    while left != 0 {
+        let k = mask::lowest(left);
+        let rest = mask::remove(kept, k);
+        if schedule::is_late(c, t, d, priority, higher, n, rest) {
+            kept = rest;
+        }
+        left = mask::remove(left, k);
+    }
+    kept
+}
+
+// The check on a table that was read. A mask with an unknown task or fewer than two is refused.
+fn check_table(table: Table, mask: u32) -> Answer
+    requires { ⌜ Sound table ⌝ }
+    ensures { λ r. ⌜ AnsweredFor table mask r ⌝ }
+{
+    let tasks = table.tasks;
+    let n = tasks.count;
+    if verdict::bad_group(n, mask) {
+        return Answer::Refused(Cause::NoConflictMask, 0);
+    }
+    let c = tasks.c;
+    let t = tasks.t;
+    let d = tasks.d;
+    let priority = tasks.priority;
+    let higher = schedule::higher(&priority, n);
+    Answer::Found(classify(&c, &t, &d, &priority, &higher, n, mask))
+}
+
+// Whether a set of the file's tasks is a conflict, and a minimal one.
+pub fn check_conflict(file: &[u8], mask: u32) -> Answer
+    ensures { λ r. ⌜ Answered (now (file .entry)) mask r ⌝ }
+{
+    let reading = table::read(file);
+    let outcome = reading.outcome;
+    let table = reading.table;
+    match outcome {
+        Outcome::Refused(cause, at) => Answer::Refused(cause, at),
+        Outcome::Readable => check_table(table, mask),
+    }
+}

@@ -1,0 +1,16 @@
+pub mod Only
+pub mod Server
+pub mod TwoStreams
+pub mod TaskRun
+pub mod LevelLemma
+pub mod JobService
+pub mod Ceil
+pub mod FixedPoint
+pub mod InTime
+pub mod LateSets
+pub mod SharesLoop
+pub mod Tabulate
+pub mod HigherLoops
+pub mod TasksOfArrays
+pub mod ResponseLoop
+pub mod Cases

@@ -1,0 +1,107 @@
+-- What the limits say of the tasks in the arrays, and the demand as the code sums it. Assumes nothing.
+use mathlib.Core.Path.{_≡_, refl, sym, ap, ap₂, _∙_}
+use mathlib.Core.Bool.{Bool, _&&_}
+use mathlib.Core.List.{List}
+use Prim.Native.Nat.{ℕ, zero, suc, _+_, _*_, _≤_, _<_}
+use native.Mathlib.Omega.{arith}
+use native.Mathlib.Nat.{add-suc, add-zero, le-dest}
+use borrow.Author.Tests.{lt-ltb}
+use lib.Bits.{bitAnd}
+use lib.Dec.{T, ltb, lt→ltb, ltb→lt}
+use lib.ListN.{getD}
+use Rattle.finite.specs.Finite.{only, sumTo}
+use Rattle.finite.proofs.Sum.{sum-ext}
+use Rattle.mask.specs.Mask.{has, Subset}
+use Rattle.mask.proofs.Laws.{below-has, has-and, has-mask, subset-below}
+use Rattle.schedule.specs.Periodic.{Valid, Constrained, LateSet}
+use Rattle.schedule.specs.Response.{ceil, share, demand, response}
+use Rattle.schedule.specs.Arrays.{InLimits, SmallShares, higherThan, sharesOf, tasksOf}
+use Rattle.mask.proofs.Tests.{and-left, and-right}
+use Rattle.schedule.proofs.Only.{only-in, only-out}
+use Rattle.schedule.proofs.LateSets.{late-set}
+use Rattle.schedule.proofs.Tabulate.{getD-tabulate}
+
+-- a sum whose later terms are 0
+sum-part : (n k : ℕ) (f : ℕ → ℕ) → ((j : ℕ) → n ≤ j → f j ≡ 0) → sumTo (n + k) f ≡ sumTo n f
+unfolding sumTo
+sum-part n zero f e = rw add-zero refl
+sum-part n (suc k) f e = rw add-suc (omega (arith, sum-part n k f e, e (n + k) (omega arith)))
+
+module _ {n : ℕ} {c t d p higher : List ℕ} {set : ℕ} (a : InLimits n c t d p higher set) where
+  pub valid-of : Valid (tasksOf n c t d p)
+  valid-of = record {
+    works = a .some-work;
+    some-period = λ i l. omega (arith, a .some-work i l, a .in-deadline i l, a .in-period i l);
+    distinct = a .distinct;
+  }
+
+  pub constrained-of : Constrained (tasksOf n c t d p)
+  constrained-of = a .in-period
+
+  pub work-bound : (i : ℕ) → i < n → getD c i 0 ≤ 1000000
+  work-bound i l = omega (arith, a .in-deadline i l, a .in-period i l, a .short-period i l)
+
+  pub deadline-bound : (i : ℕ) → i < n → getD d i 0 ≤ 1000000
+  deadline-bound i l = omega (arith, a .in-period i l, a .short-period i l)
+
+  -- the same tasks with a part of the set
+  pub with-subset : (part : ℕ) → Subset part set → InLimits n c t d p higher part
+  with-subset part inside = record {
+    few = a .few;
+    some-work = a .some-work;
+    in-deadline = a .in-deadline;
+    in-period = a .in-period;
+    short-period = a .short-period;
+    distinct = a .distinct;
+    ranked = a .ranked;
+    inside = subset-below n part set inside (a .inside);
+  }
+
+  pub task-of : {j : ℕ} → T (has set j) → j < n
+  task-of {j} = below-has n set (a .inside) j
+
+  -- the set is late, and is not, by its members' responses
+  pub late-if : (i : ℕ) {r : ℕ} → T (has set i) → r ≡ response (tasksOf n c t d p) (has set) i → r ≡ 0 → LateSet (tasksOf n c t d p) (has set)
+  late-if i m e z = late-set (tasksOf n c t d p) valid-of (has set) constrained-of .1 (i, task-of m, m, sym e ∙ z)
+
+  pub not-late-if : ((k : ℕ) → T (has set k) → 0 < response (tasksOf n c t d p) (has set) k) → LateSet (tasksOf n c t d p) (has set) → ⊥
+  not-late-if h q = let e = late-set (tasksOf n c t d p) valid-of (has set) constrained-of .0 q in omega (arith, e .3, h (e .0) (e .2))
+
+  -- the tasks that may delay task i
+  higher-at : (i : ℕ) → i < n → getD higher i 0 ≡ higherThan n p i
+  higher-at i l =
+      ap (λ (h : List ℕ). getD h i 0) (a .ranked)
+      ∙ getD-tabulate 24 (λ k. only (ltb k n) (higherThan n p k)) i (omega (arith, a .few))
+      ∙ only-in (ltb i n) (higherThan n p i) (lt→ltb i n l)
+
+  others-has : (i : ℕ) → i < n → (j : ℕ) → has (bitAnd set (getD higher i 0)) j ≡ (has set j && (ltb j n && ltb (getD p i 0) (getD p j 0)))
+  others-has i l j = has-and set (getD higher i 0) j ∙ ap (λ (b : Bool). has set j && b) (ap (λ (m : ℕ). has m j) (higher-at i l) ∙ has-mask n (λ k. ltb (getD p i 0) (getD p k 0)) j)
+
+  others-below : (i : ℕ) → i < n → (j : ℕ) → T (has (bitAnd set (getD higher i 0)) j) → j < n
+  others-below i l j u =
+      let over = ltb (getD p i 0) (getD p j 0) in
+      ltb→lt j n (and-left (ltb j n) over (and-right (has set j) (ltb j n && over) (rw (others-has i l j) at u)))
+
+  pub small-shares : (i : ℕ) → i < n → SmallShares c t (bitAnd set (getD higher i 0))
+  small-shares i l = record {
+    few = λ j u. omega (arith, others-below i l j u, a .few);
+    some-period = λ j u. valid-of .some-period j (others-below i l j u);
+    short-period = λ j u. a .short-period j (others-below i l j u);
+    little-work = λ j u. work-bound j (others-below i l j u);
+  }
+
+  pub demand-of : (i x : ℕ) {own rest : ℕ} → i < n → own ≡ getD c i 0 → rest ≡ sharesOf c t (bitAnd set (getD higher i 0)) x
+      → own + rest ≡ demand (tasksOf n c t d p) (has set) i x
+  unfolding demand
+  demand-of i x l own rest =
+      let k = le-dest (a .few) in
+      ap₂ _+_ own (rest ∙ rw (k .1) at (sum-part n (k .0) term later) ∙ sum-ext n term (share (tasksOf n c t d p) (has set) i x) here)
+    where
+      term : ℕ → ℕ
+      term j = only (has (bitAnd set (getD higher i 0)) j) (ceil x (getD t j 0) * getD c j 0)
+
+      later : (j : ℕ) → n ≤ j → term j ≡ 0
+      later j h = only-out (has (bitAnd set (getD higher i 0)) j) (ceil x (getD t j 0) * getD c j 0) (λ u. omega (arith, others-below i l j u))
+
+      here : (j : ℕ) → j < n → term j ≡ share (tasksOf n c t d p) (has set) i x j
+      here j h = rw (others-has i l j, lt-ltb j n h) refl

@@ -1,0 +1,4 @@
+pub mod Run
+pub mod Periodic
+pub mod Response
+pub mod Arrays

@@ -1,0 +1,30 @@
+-- The response of a task (01, "Response and run"). Assumes nothing.
+use mathlib.Core.Bool.{Bool, _&&_}
+use Prim.Native.Nat.{ℕ, _+_, _-_, _*_, _/_}
+use lib.Dec.{ltb, eqb}
+use Rattle.finite.specs.Finite.{only, sumTo, someBelow, firstFrom}
+use Rattle.schedule.specs.Periodic.{Tasks}
+
+-- x / T, rounded up
+unfoldable pub ceil : ℕ → ℕ → ℕ
+ceil x T = (x + (T - 1)) / T
+
+-- 01: for each task of higher priority in the set, its C times R / T rounded up, T being that task's
+abbrev pub share : Tasks → (ℕ → Bool) → ℕ → ℕ → ℕ → ℕ
+share s on i R j = only (on j && ltb (s .priority i) (s .priority j)) (ceil R (s .T j) * s .C j)
+
+-- 01, equation 11 of 001: R is C plus the shares. This is its right side.
+unfoldable pub demand : Tasks → (ℕ → Bool) → ℕ → ℕ → ℕ
+demand s on i R = s .C i + sumTo (s .count) (share s on i R)
+
+-- the least solution of f x ≡ x from 1 to d; 0 if there is none
+unfoldable pub leastSolution : (ℕ → ℕ) → ℕ → ℕ
+leastSolution f d = firstFrom d (λ x. eqb (f x) x) 1
+
+-- 01: the least solution is the response; 0 marks a task whose response is above D or that has none
+unfoldable pub response : Tasks → (ℕ → Bool) → ℕ → ℕ
+response s on i = leastSolution (demand s on i) (s .D i)
+
+-- some task of the set has response 0
+abbrev pub lateTest : Tasks → (ℕ → Bool) → Bool
+lateTest s on = someBelow (s .count) (λ i. on i && eqb (response s on i) 0)

@@ -1,0 +1,147 @@
+// The response of a task, and whether a set of tasks is late. The tasks are lent as an array for each number, and a set is a mask.
+ghost use mathlib.Core.Path.{_≡_};
+ghost use Prim.Native.Nat.{_*_, _<_, _≤_};
+ghost use Rattle.mask.specs.Mask.{has};
+ghost use Rattle.schedule.specs.Periodic.{LateSet};
+ghost use Rattle.schedule.specs.Response.{ceil, demand, response};
+ghost use Rattle.schedule.specs.Arrays.{tasksOf, higherThan, higherOf, sharesOf, SmallShares, InLimits, Says};
+
+// The tasks of larger priority than task i.
+fn higher_than(priority: &[u32; 24], n: usize, i: usize) -> u32
+    requires { ⌜ (n ≤ 24) × (i < n) ⌝ }
+    ensures { λ r. ⌜ r ≡ higherThan n (now (priority .entry)) i ⌝ }
+{
+    let mut set: u32 = 0;
+    let mut j: usize = 0;
+    while j < n {
+        if priority[i] < priority[j] {
+            set = mask::insert(set, j);
+        }
+        j += 1;
+    }
+    set
+}
+
+// The tasks of larger priority than each task: made once for a table.
+pub fn higher(priority: &[u32; 24], n: usize) -> [u32; 24]
+    requires { ⌜ n ≤ 24 ⌝ }
+    ensures { λ r. ⌜ r ≡ higherOf n (now (priority .entry)) ⌝ }
+{
+    let mut rows = [0u32; 24];
+    let mut i: usize = 0;
+    while i < n {
+        let row = higher_than(priority, n, i);
+        rows[i] = row;
+        i += 1;
+    }
+    rows
+}
+
+// x as a wider number.
+fn wide(x: u32) -> u64
+    ensures { λ r. ⌜ r ≡ x ⌝ }
+{
+    x as u64
+}
+
+// x / t, rounded up.
+fn rounded_up(x: u32, t: u32) -> u32
+    requires { ⌜ (x ≤ 1000000) × (0 < t) × (t ≤ 1000000) ⌝ }
+    ensures { λ r. ⌜ r ≡ ceil x t ⌝ }
+{
+    (x + (t - 1)) / t
+}
+
+// The share of a task with C c and T t in the demand at x.
+fn share(x: u32, t: u32, c: u32) -> u64
+    requires { ⌜ (x ≤ 1000000) × (0 < t) × (t ≤ 1000000) × (c ≤ 1000000) ⌝ }
+    ensures { λ r. ⌜ r ≡ ceil x t * c ⌝ }
+{
+    wide(rounded_up(x, t)) * wide(c)
+}
+
+// The shares of the tasks in others. Only these are visited.
+fn interference<'a>(c: &'a [u32; 24], t: &'a [u32; 24], others: u32, x: u32) -> u64
+    requires { ⌜ SmallShares (now c) (now t) others × (x ≤ 1000000) ⌝ }
+    ensures { λ r. ⌜ (r ≡ sharesOf (now (c .entry)) (now (t .entry)) others x) × (r ≤ 24 * 1000000000000) ⌝ }
+{
+    let mut sum: u64 = 0;
+    let mut left = others;
+    while left != 0 {
+        let j = mask::lowest(left);
+        sum += share(x, t[j], c[j]);
+        left = mask::remove(left, j);
+    }
+    sum
+}
+
+// The demand at x on task i in the set. The priorities enter through higher; priority and d are there for the statement.
+pub fn demand_at<'a>(
+    c: &'a [u32; 24],
+    t: &'a [u32; 24],
+    d: &'a [u32; 24],
+    priority: &'a [u32; 24],
+    higher: &'a [u32; 24],
+    n: usize,
+    set: u32,
+    i: usize,
+    x: u32,
+) -> u64
+    requires { ⌜ InLimits n (now c) (now t) (now d) (now priority) (now higher) set × (i < n) × (x ≤ 1000000) ⌝ }
+    ensures { λ r. ⌜ r ≡ demand (tasksOf n (now (c .entry)) (now (t .entry)) (now (d .entry)) (now (priority .entry))) (has set) i x ⌝ }
+{
+    wide(c[i]) + interference(c, t, set & higher[i], x)
+}
+
+// The response of task i in the set: 0 where it is above the deadline or there is none.
+pub fn response<'a>(
+    c: &'a [u32; 24],
+    t: &'a [u32; 24],
+    d: &'a [u32; 24],
+    priority: &'a [u32; 24],
+    higher: &'a [u32; 24],
+    n: usize,
+    set: u32,
+    i: usize,
+) -> u32
+    requires { ⌜ InLimits n (now c) (now t) (now d) (now priority) (now higher) set × (i < n) ⌝ }
+    ensures { λ r. ⌜ r ≡ response (tasksOf n (now (c .entry)) (now (t .entry)) (now (d .entry)) (now (priority .entry))) (has set) i ⌝ }
+{
+    let limit = wide(d[i]);
+    let mut x = c[i];
+    let end = loop {
+        let y = demand_at(c, t, d, priority, higher, n, set, i, x);
+        if y == wide(x) {
+            break y;
+        }
+        if limit < y {
+            break y;
+        }
+        x = y as u32;
+    };
+    if limit < end { 0 } else { end as u32 }
+}
+
+// Whether the set has a late job in the tick run.
+pub fn is_late<'a>(
+    c: &'a [u32; 24],
+    t: &'a [u32; 24],
+    d: &'a [u32; 24],
+    priority: &'a [u32; 24],
+    higher: &'a [u32; 24],
+    n: usize,
+    set: u32,
+) -> bool
+    requires { ⌜ InLimits n (now c) (now t) (now d) (now priority) (now higher) set ⌝ }
+    ensures { λ r. ⌜ Says r (LateSet (tasksOf n (now (c .entry)) (now (t .entry)) (now (d .entry)) (now (priority .entry))) (has set)) ⌝ }
+{
+    let mut left = set;
+    while left != 0 {
+        let i = mask::lowest(left);
+        if response(c, t, d, priority, higher, n, set, i) == 0 {
+            return true;
+        }
+        left = mask::remove(left, i);
+    }
+    false
+}
