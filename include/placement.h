@@ -1,7 +1,9 @@
 /* The placement tool's functions for C. Link with libexport.a (rt staticlib export).
  *
- * Every buffer belongs to the caller. No function keeps a pointer, allocates, or reads beyond the length it is given;
- * a pointer may be to anything of the stated length, and to one byte at least where the length is 0. Each call returns.
+ * Every buffer belongs to the caller. No function keeps a pointer, allocates, writes, or reads beyond the length it is given.
+ * A pointer is valid for its length, also where that is 0. Each call returns.
+ *
+ * A refusal comes back in one number: its number (as in the README) is answer >> 32, its place (uint32_t)answer.
  */
 #ifndef PLACEMENT_H
 #define PLACEMENT_H
@@ -9,9 +11,19 @@
 #include <stddef.h>
 #include <stdint.h>
 
-/* Reads a table file. Nothing is written.
- * Returns 0 if the file can be read; else the refusal (1 to 11): its number is answer >> 32, its place (uint32_t)answer.
+/* Reads a table file.
+ * Returns 0 if the file can be read, else the refusal (1 to 11).
  */
 uint64_t placement_read(const uint8_t *file, size_t length);
+
+/* Checks a set of the file's tasks, bit k of the mask for task k: is it late when it runs alone on one processor?
+ * Returns 0 no conflict, 1 late but not minimal, 2 a minimal conflict; or the refusal (1 to 11, 15).
+ */
+uint64_t placement_conflict(const uint8_t *file, size_t length, uint32_t mask);
+
+/* Counts the late ones among some sets of the file's tasks, one lateness test for each: for measuring.
+ * A set with an unknown task does not count; a file that is refused has none.
+ */
+uint64_t placement_late_sets(const uint8_t *file, size_t length, const uint32_t *sets, size_t count);
 
 #endif

@@ -4,6 +4,7 @@ mod c {
     unsafe extern "C" {
         pub fn placement_read(file: *const u8, length: usize) -> u64;
         pub fn placement_conflict(file: *const u8, length: usize, mask: u32) -> u64;
+        pub fn placement_late_sets(file: *const u8, length: usize, sets: *const u32, count: usize) -> u64;
     }
 }
 
@@ -17,4 +18,10 @@ pub fn read(file: &[u8]) -> u64 {
 pub fn conflict(file: &[u8], mask: u32) -> u64 {
     // SAFETY: the slice is valid during the call, and the function only reads it.
     unsafe { c::placement_conflict(file.as_ptr(), file.len(), mask) }
+}
+
+/// How many of the sets are late; 0 for a file that is refused.
+pub fn late_sets(file: &[u8], sets: &[u32]) -> u64 {
+    // SAFETY: the slices are valid during the call, and the function only reads them.
+    unsafe { c::placement_late_sets(file.as_ptr(), file.len(), sets.as_ptr(), sets.len()) }
 }

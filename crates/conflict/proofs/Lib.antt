@@ -2,3 +2,4 @@ pub mod Findings
 pub mod ExtractLoop
 pub mod Limits
 pub mod AnswerPlace
+pub mod Counting

@@ -1,2 +1,3 @@
 pub mod Conflict
 pub mod Entry
+pub mod Count

@@ -1,11 +1,13 @@
 // Conflicts: whether a late set of tasks is minimal, and a minimal one within a late set.
 ghost use mathlib.Core.Path.{_≡_};
+ghost use Prim.Native.Nat.{_≤_};
 ghost use Rattle.mask.specs.Mask.{has};
 ghost use Rattle.schedule.specs.Periodic.{LateSet};
 ghost use Rattle.schedule.specs.Arrays.{tasksOf, InLimits};
 ghost use Rattle.table.specs.Sound.{Sound};
 ghost use Rattle.conflict.specs.Conflict.{numberOf, Checked, MinimalWithin};
-ghost use Rattle.conflict.specs.Entry.{Answered, AnsweredFor};
+ghost use Rattle.conflict.specs.Entry.{tasksIn, Answered, AnsweredFor};
+ghost use Rattle.conflict.specs.Count.{lateAsNumber, lateCount, lateCountOf};
 use table::Outcome;
 use table::Table;
 use verdict::Cause;
@@ -116,5 +118,60 @@ pub fn check_conflict(file: &[u8], mask: u32) -> Answer
     match outcome {
         Outcome::Refused(cause, at) => Answer::Refused(cause, at),
         Outcome::Readable => check_table(table, mask),
+    }
+}
+
+// 1 where the set names only tasks of the table and is late, else 0.
+fn late_as_number<'a>(
+    c: &'a [u32; 24],
+    t: &'a [u32; 24],
+    d: &'a [u32; 24],
+    priority: &'a [u32; 24],
+    higher: &'a [u32; 24],
+    n: usize,
+    set: u32,
+) -> u64
+    requires { ⌜ InLimits n (now c) (now t) (now d) (now priority) (now higher) 0 ⌝ }
+    ensures { λ r. ⌜ (r ≡ lateAsNumber (tasksOf n (now (c .entry)) (now (t .entry)) (now (d .entry)) (now (priority .entry))) set) × (r ≤ 1) ⌝ }
+{
+    if mask::only_below(set, n) {
+        if schedule::is_late(c, t, d, priority, higher, n, set) {
+            return 1;
+        }
+    }
+    0
+}
+
+// How many of the sets are late, of a table that was read.
+fn count_late_of(table: Table, sets: &[u32]) -> u64
+    requires { ⌜ Sound table ⌝ }
+    ensures { λ r. ⌜ r ≡ lateCount (tasksIn table) (now (sets .entry)) ⌝ }
+{
+    let tasks = table.tasks;
+    let n = tasks.count;
+    let c = tasks.c;
+    let t = tasks.t;
+    let d = tasks.d;
+    let priority = tasks.priority;
+    let higher = schedule::higher(&priority, n);
+    let mut count: u64 = 0;
+    let mut j: usize = 0;
+    while j < sets.len() {
+        count += late_as_number(&c, &t, &d, &priority, &higher, n, sets[j]);
+        j += 1;
+    }
+    count
+}
+
+// How many of the sets are late, 0 for a file that is refused: one lateness test for each set, for measuring.
+pub fn count_late(file: &[u8], sets: &[u32]) -> u64
+    ensures { λ r. ⌜ r ≡ lateCountOf (now (file .entry)) (now (sets .entry)) ⌝ }
+{
+    let reading = table::read(file);
+    let outcome = reading.outcome;
+    let table = reading.table;
+    match outcome {
+        Outcome::Refused(_, _) => 0,
+        Outcome::Readable => count_late_of(table, sets),
     }
 }

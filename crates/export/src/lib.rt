@@ -2,6 +2,7 @@
 ghost use mathlib.Core.Path.{_≡_};
 ghost use Prim.Native.Nat.{_≤_};
 ghost use Rattle.table.specs.Table.{readOf};
+ghost use Rattle.conflict.specs.Count.{lateCountOf};
 ghost use Rattle.conflict.specs.Entry.{answerOf};
 ghost use Rattle.export.specs.Answers.{refusedAs, readAs, conflictAs};
 use conflict::Answer;
@@ -37,4 +38,12 @@ pub extern "C" fn placement_conflict(file: &[u8], mask: u32) -> u64
         Answer::Refused(cause, place) => refused_as(cause, place),
         Answer::Found(finding) => conflict::number(finding),
     }
+}
+
+// For measuring: one lateness test for each set, on a file that is read once.
+#[no_mangle]
+pub extern "C" fn placement_late_sets(file: &[u8], sets: &[u32]) -> u64
+    ensures { λ r. ⌜ r ≡ lateCountOf (now (file .entry)) (now (sets .entry)) ⌝ }
+{
+    conflict::count_late(file, sets)
 }

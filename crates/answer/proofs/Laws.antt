@@ -1,0 +1,180 @@
+-- Laws of the answer's layout: which sets a list of conflicts covers, the conflicts in the part after the head, the whole buffer.
+-- Assumes nothing.
+use mathlib.Core.Path.{_≡_, refl, sym, ap, _∙_}
+use mathlib.Core.Bool.{Bool, false, _||_, or-assoc, or-comm}
+use mathlib.Core.List.{List, [], _∷_, _++_, append-assoc, append-nil}
+use Prim.Native.Nat.{ℕ, zero, suc, _+_, _-_, _*_, _^_, _≤_, _<_}
+use native.Mathlib.Omega.{arith}
+use lib.Dec.{T}
+use lib.ListN.{length, getD, take, drop, length-append, length-drop, length-replicate}
+use lib.Seq.{length-take-le, take-at, drop-at, drop-drop}
+use borrow.Rule.Slice.PartMut.{midOf, putMid}
+use Rattle.finite.specs.Finite.{someBelow}
+use Rattle.finite.proofs.Some.{some-intro, some-elim, some-ext}
+use Rattle.mask.specs.Mask.{Subset, within}
+use Rattle.mask.proofs.Laws.{subset-within, within-subset}
+use Rattle.wire.specs.Wire.{number, recordBytes}
+use Rattle.wire.proofs.Laws.{number-at, number-behind, record-length}
+use Rattle.wire.proofs.Part.{over}
+use Rattle.answer.specs.Answer.{foundHead, noneHead, conflictBytes, records, endBytes, countOf, answerBytes, laid, maskAt, coveredBy, Listing}
+
+-- ---- the sets that a list covers
+
+some-front : (n : ℕ) (p : ℕ → Bool) → someBelow (suc n) p ≡ (p 0 || someBelow n (λ j. p (suc j)))
+unfolding someBelow
+some-front zero p = or-comm false (p 0)
+some-front (suc n) p = ap (λ (b : Bool). b || p (suc n)) (some-front n p) ∙ or-assoc (p 0) (someBelow n (λ j. p (suc j))) (p (suc n))
+
+covered-some : (cs : List ℕ) (set : ℕ) → coveredBy cs set ≡ someBelow (length cs) (λ j. within (getD cs j 0) set)
+unfolding coveredBy someBelow
+covered-some [] set = refl
+covered-some (c ∷ cs) set =
+    ap (λ (b : Bool). within c set || b) (covered-some cs set) ∙ sym (some-front (length cs) (λ j. within (getD (c ∷ cs) j 0) set))
+
+-- an element that is a subset covers, and where a set is covered some element is a subset
+pub covered-intro : (cs : List ℕ) (set j : ℕ) → j < length cs → Subset (getD cs j 0) set → T (coveredBy cs set)
+covered-intro cs set j l s =
+    rw (covered-some cs set) (some-intro (length cs) (λ i. within (getD cs i 0) set) j l (subset-within (getD cs j 0) set s))
+
+pub covered-elim : (cs : List ℕ) (set : ℕ) → T (coveredBy cs set) → (j : ℕ) × (j < length cs) × Subset (getD cs j 0) set
+covered-elim cs set t =
+    let r = some-elim (length cs) (λ i. within (getD cs i 0) set) (rw (covered-some cs set) at t) in
+    (r .0, r .1, within-subset (getD cs (r .0) 0) set (r .2))
+
+pub covered-mono : (cs : List ℕ) (s s′ : ℕ) → Subset s s′ → T (coveredBy cs s) → T (coveredBy cs s′)
+covered-mono cs s s′ sub t =
+    let r = covered-elim cs s t in
+    covered-intro cs s′ (r .0) (r .1) (λ k h. sub k (r .2 k h))
+
+pub covered-append : (cs ds : List ℕ) (set : ℕ) → coveredBy (cs ++ ds) set ≡ (coveredBy cs set || coveredBy ds set)
+unfolding coveredBy
+covered-append [] ds set = refl
+covered-append (c ∷ cs) ds set =
+    ap (λ (b : Bool). within c set || b) (covered-append cs ds set) ∙ sym (or-assoc (within c set) (coveredBy cs set) (coveredBy ds set))
+
+-- ---- conflict records
+
+records-length : (cs : List ℕ) → length (records cs) ≡ 6 * length cs
+unfolding records
+records-length [] = refl
+records-length (c ∷ cs) = simp (length-append, record-length) (omega (arith, records-length cs))
+
+records-snoc : (cs : List ℕ) (m : ℕ) → records (cs ++ (m ∷ [])) ≡ records cs ++ conflictBytes m
+unfolding records
+records-snoc [] m = append-nil (conflictBytes m)
+records-snoc (c ∷ cs) m =
+    ap (λ (l : List ℕ). conflictBytes c ++ l) (records-snoc cs m) ∙ sym (append-assoc (conflictBytes c) (records cs) (conflictBytes m))
+
+-- the mask of the first record
+first-mask : (c : ℕ) (rest : List ℕ) → c < 2 ^ 32 → maskAt (conflictBytes c ++ rest) 0 ≡ c
+unfolding recordBytes
+first-mask c rest b = number-at (78 ∷ 71 ∷ []) rest 4 c 2 refl b
+
+mask-at : (cs rest : List ℕ) → ((j : ℕ) → getD cs j 0 < 2 ^ 32) → (j : ℕ) → j < length cs → maskAt (records cs ++ rest) j ≡ getD cs j 0
+unfolding records
+mask-at [] rest b j l = absurd (omega arith)
+mask-at (c ∷ cs) rest b zero l = rw append-assoc (first-mask c (records cs ++ rest) (b 0))
+mask-at (c ∷ cs) rest b (suc j) l =
+    ap (λ (s : List ℕ). number s (6 * suc j + 2) 4) (append-assoc (conflictBytes c) (records cs) rest)
+    ∙ ap (λ (k : ℕ). number (conflictBytes c ++ (records cs ++ rest)) k 4) (omega arith)
+    ∙ number-behind (conflictBytes c) (records cs ++ rest) 6 (6 * j + 2) 4 (record-length (78 ∷ 71 ∷ []) c)
+    ∙ mask-at cs rest (λ i. b (suc i)) j (omega arith)
+
+words-snoc : (cs : List ℕ) (m : ℕ) → ((j : ℕ) → getD cs j 0 < 2 ^ 32) → m < 2 ^ 32 → (j : ℕ) → getD (cs ++ (m ∷ [])) j 0 < 2 ^ 32
+words-snoc [] m b h zero = h
+words-snoc [] m b h (suc j) = omega arith
+words-snoc (c ∷ cs) m b h zero = b 0
+words-snoc (c ∷ cs) m b h (suc j) = words-snoc cs m (λ i. b (suc i)) h j
+
+-- ---- the list in the part after the head
+
+-- what a writer that was lent the part from `at` on leaves
+pub laid-part : (at : ℕ) (old new part : List ℕ) (k : ℕ) → length new ≡ k → part ≡ new ++ drop k (midOf at (length old - at) old)
+    → putMid at (length old - at) old part ≡ laid at new old
+unfolding laid
+laid-part at old new part k q e = over at old new part k e ∙ ap (λ (w : ℕ). take at old ++ (new ++ drop (at + w) old)) (sym q)
+
+-- nothing is listed
+pub listing-start : (old : List ℕ) → 3 ≤ length old → Listing old [] old
+unfolding records
+listing-start old h = record { holds = refl; room = h; words = λ j. omega arith }
+
+module _ {old cs list : List ℕ} (w : Listing old cs list) where
+  pub listing-length : length list ≡ length old
+  listing-length = ap length (w .holds) ∙ simp (length-append, length-drop) (omega (arith, records-length cs, w .room))
+
+  front : take (6 * length cs) list ≡ records cs
+  front = ap (take (6 * length cs)) (w .holds) ∙ take-at (records cs) (drop (6 * length cs) old) (6 * length cs) (records-length cs)
+
+  beyond : (k : ℕ) → drop (6 * length cs + k) list ≡ drop (6 * length cs + k) old
+  beyond k =
+      sym (drop-drop k (6 * length cs) list)
+      ∙ ap (drop k) (ap (drop (6 * length cs)) (w .holds) ∙ drop-at (records cs) (drop (6 * length cs) old) (6 * length cs) (records-length cs))
+      ∙ drop-drop k (6 * length cs) old
+
+  -- bytes laid behind the records
+  behind : (new : List ℕ) {k : ℕ} → k ≡ length cs → laid (6 * k) new list ≡ records cs ++ (new ++ drop (6 * length cs + length new) old)
+  unfolding laid
+  behind new q =
+      ap (λ (n : ℕ). take (6 * n) list ++ (new ++ drop (6 * n + length new) list)) q
+      ∙ ap (λ (l : List ℕ). l ++ (new ++ drop (6 * length cs + length new) list)) front
+      ∙ ap (λ (l : List ℕ). records cs ++ (new ++ l)) (beyond (length new))
+
+  -- one conflict more
+  pub listing-append : {k m : ℕ} {list′ : List ℕ} → k ≡ length cs → 6 * k + 9 ≤ length old → m < 2 ^ 32
+      → list′ ≡ laid (6 * k) (conflictBytes m) list → Listing old (cs ++ (m ∷ [])) list′
+  listing-append {k} {m} {list′} q r b e =
+      let rest : 6 * length cs + length (conflictBytes m) ≡ 6 * length (cs ++ (m ∷ [])) = omega (arith, record-length (78 ∷ 71 ∷ []) m, length-append cs (m ∷ [])) in
+      record {
+        holds = e
+            ∙ behind (conflictBytes m) q
+            ∙ sym (append-assoc (records cs) (conflictBytes m) (drop (6 * length cs + length (conflictBytes m)) old))
+            ∙ rw (records-snoc cs m, rest) refl;
+        room = omega (arith, length-append cs (m ∷ []));
+        words = words-snoc cs m (w .words) b;
+      }
+
+  -- whether a set is covered
+  pub listing-covered : {k : ℕ} → k ≡ length cs → (set : ℕ) → someBelow k (λ j. within (maskAt list j) set) ≡ coveredBy cs set
+  listing-covered {k} q set =
+      ap (λ (n : ℕ). someBelow n (λ j. within (maskAt list j) set)) q
+      ∙ some-ext (length cs) (λ j. within (maskAt list j) set) (λ j. within (getD cs j 0) set) (λ j l.
+      ap (λ (c : ℕ). within c set) (ap (λ (s : List ℕ). maskAt s j) (w .holds) ∙ mask-at cs (drop (6 * length cs) old) (w .words) j l))
+      ∙ sym (covered-some cs set)
+
+  -- the end behind the list
+  pub listing-end : {k : ℕ} {list′ : List ℕ} → k ≡ length cs → (complete : Bool) → list′ ≡ laid (6 * k) (endBytes complete) list
+      → list′ ≡ records cs ++ endBytes complete ++ drop (6 * length cs + 3) old
+  listing-end q complete e = e ∙ behind (endBytes complete) q ∙ sym (append-assoc (records cs) (endBytes complete) (drop (6 * length cs + 3) old))
+
+-- ---- the whole buffer
+
+pub found-length : {n : ℕ} (processors : List ℕ) → length processors ≡ n → length (foundHead processors) ≡ n + 2
+found-length processors e = omega arith
+
+pub none-length : (n : ℕ) → length (noneHead n) ≡ n + 2
+none-length n = omega (arith, length-replicate {A = ℕ} n 255)
+
+-- the head, and what a list and its end leave behind it
+module _ (n : ℕ) (head old : List ℕ) {cs list list′ : List ℕ} {k : ℕ} (complete : Bool) (q : k ≡ length cs) (e : list′ ≡ laid (6 * k) (endBytes complete) list) where
+  pub whole : Listing (drop (n + 2) old) cs list → head ++ list′ ≡ answerBytes n head cs complete old
+  unfolding answerBytes
+  whole w =
+      let later = drop-drop (6 * length cs + 3) (n + 2) old in
+      let count : n + 2 + (6 * length cs + 3) ≡ countOf n (length cs) = omega arith in
+      rw (listing-end w q complete e, later, count)
+      (sym (append-assoc head (records cs ++ endBytes complete) (drop (countOf n (length cs)) old))
+      ∙ ap (λ (l : List ℕ). l ++ drop (countOf n (length cs)) old) (sym (append-assoc head (records cs) (endBytes complete))))
+
+  -- the head is put first, and then the part after it is lent
+  pub whole-first : (buffer : List ℕ) → length head ≡ n + 2 → buffer ≡ head ++ drop (n + 2) old → Listing (drop (n + 2) buffer) cs list
+      → take (n + 2) buffer ++ list′ ≡ answerBytes n head cs complete old
+  whole-first buffer h b w =
+      let part : drop (n + 2) buffer ≡ drop (n + 2) old = ap (drop (n + 2)) b ∙ drop-at head (drop (n + 2) old) (n + 2) h in
+      let front : take (n + 2) buffer ≡ head = ap (take (n + 2)) b ∙ take-at head (drop (n + 2) old) (n + 2) h in
+      rw front (whole (rw part at w))
+
+  -- the part after the head is lent, and the head is put last
+  pub whole-last : (buffer : List ℕ) → n + 2 ≤ length buffer → Listing (drop (n + 2) old) cs list
+      → head ++ drop (n + 2) (take (n + 2) buffer ++ list′) ≡ answerBytes n head cs complete old
+  whole-last buffer h w = rw (drop-at (take (n + 2) buffer) list′ (n + 2) (length-take-le (n + 2) buffer h)) (whole w)
