@@ -1,3 +1,5 @@
 pub mod Sum
+pub mod Only
 pub mod Some
 pub mod First
+pub mod Search

@@ -21,3 +21,8 @@ someBelow (suc n) p = someBelow n p || p n
 unfoldable pub firstFrom : ℕ → (ℕ → Bool) → ℕ → ℕ
 firstFrom zero p x = 0
 firstFrom (suc n) p x = elim (p x) [ true ↦ x | false ↦ firstFrom n p (suc x) ]
+
+-- the lowest number below n that passes; n if none does
+unfoldable pub firstBelow : ℕ → (ℕ → Bool) → ℕ
+firstBelow zero p = 0
+firstBelow (suc n) p = elim (p 0) [ true ↦ 0 | false ↦ suc (firstBelow n (λ k. p (suc k))) ]

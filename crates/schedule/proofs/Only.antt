@@ -1,4 +1,4 @@
--- Laws of `only`. Assumes nothing.
+-- More laws of `only`. Assumes nothing.
 use mathlib.Core.Path.{_≡_, refl, ap}
 use mathlib.Core.Bool.{Bool, true, false, _&&_}
 use Prim.Native.Nat.{ℕ, _+_, _*_, _≤_}
@@ -6,6 +6,7 @@ use native.Mathlib.Omega.{arith}
 use lib.Dec.{T}
 use Rattle.finite.specs.Finite.{only}
 use Rattle.mask.proofs.Tests.{same-test}
+pub use Rattle.finite.proofs.Only.{only-in, only-out}
 
 pub only-add : (b : Bool) (x y : ℕ) → only b (x + y) ≡ only b x + only b y
 only-add true x y = refl
@@ -15,16 +16,9 @@ pub only-le : (b : Bool) (x y : ℕ) → (T b → x ≤ y) → only b x ≤ only
 only-le true x y h = h tt
 only-le false x y h = omega arith
 
-pub only-in : (b : Bool) (x : ℕ) → T b → only b x ≡ x
-only-in true x t = refl
-only-in false x t = absurd t
-
 pub only-none : (b : Bool) (x : ℕ) → (T b → x ≡ 0) → only b x ≡ 0
 only-none true x h = h tt
 only-none false x h = refl
-
-pub only-out : (b : Bool) (x : ℕ) → (T b → ⊥) → only b x ≡ 0
-only-out b x f = only-none b x (λ t. absurd (f t))
 
 pub only-bound : (b : Bool) (x y : ℕ) → (T b → x ≤ y) → only b x ≤ y
 only-bound true x y h = h tt

@@ -1,0 +1,8 @@
+pub mod Where
+pub mod Monotone
+pub mod Order
+pub mod Step
+pub mod Bounds
+pub mod SetsLoop
+pub mod Sets
+pub mod SumLoop
