@@ -4,6 +4,12 @@ mod c {
     unsafe extern "C" {
         pub fn placement_read(file: *const u8, length: usize) -> u64;
         pub fn placement_conflict(file: *const u8, length: usize, mask: u32) -> u64;
+        pub fn placement_judge(
+            file: *const u8,
+            length: usize,
+            placement: *const u8,
+            placement_length: usize,
+        ) -> u16;
         pub fn placement_late_sets(file: *const u8, length: usize, sets: *const u32, count: usize) -> u64;
     }
 }
@@ -18,6 +24,12 @@ pub fn read(file: &[u8]) -> u64 {
 pub fn conflict(file: &[u8], mask: u32) -> u64 {
     // SAFETY: the slice is valid during the call, and the function only reads it.
     unsafe { c::placement_conflict(file.as_ptr(), file.len(), mask) }
+}
+
+/// The refusal's number, or 0, or the first broken rule's.
+pub fn judge(file: &[u8], placement: &[u8]) -> u16 {
+    // SAFETY: the slices are valid during the call, and the function only reads them.
+    unsafe { c::placement_judge(file.as_ptr(), file.len(), placement.as_ptr(), placement.len()) }
 }
 
 /// How many of the sets are late; 0 for a file that is refused.

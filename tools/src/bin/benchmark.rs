@@ -6,6 +6,7 @@ use tools::examples::task;
 use tools::file::encode;
 use tools::generate::sets::free_table;
 use tools::generate::tables::{Shape, table};
+use tools::judge::judge_number;
 use tools::model::Task;
 use tools::random::Random;
 use tools::schedule::late;
@@ -18,6 +19,10 @@ fn main() {
     let file = encode(&table(&mut Random::new(1), Shape::FULL));
     let row = format!("read a file of {} bytes", file.len());
     beside(&row, &|| tool::read(black_box(&file)), &|| reader::read_code(black_box(&file)));
+    let placement: Vec<u8> = (0..24).map(|task| task % 8).collect();
+    let tool = || u64::from(tool::judge(black_box(&file), black_box(&placement)));
+    let rust = || u64::from(judge_number(black_box(&file), black_box(&placement)));
+    beside("judge 24 tasks on 8 processors", &tool, &rust);
     for count in [2, 6, 12, 24] {
         lateness(count);
     }

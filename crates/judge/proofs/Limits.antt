@@ -1,0 +1,91 @@
+-- A table that was read is within the schedule's limits, and so are the sets of a placement. Assumes nothing.
+use mathlib.Core.Path.{_≡_, ap, fun-ext, _∙_}
+use mathlib.Core.Bool.{Bool}
+use mathlib.Core.List.{List}
+use Prim.Native.Nat.{ℕ, _^_, _≤_, _<_}
+use native.Mathlib.Omega.{arith}
+use native.Mathlib.Decide.{decLt}
+use lib.Dec.{T, leb, eqb, le→leb, lt→ltb}
+use lib.ListN.{length, getD}
+use lib.Pow.{pow-pos}
+use Rattle.finite.specs.Finite.{firstBelow}
+use Rattle.finite.proofs.Search.{FirstBelow, first-below, lowest, nowhere}
+use Rattle.mask.specs.Mask.{has, below, maskOf}
+use Rattle.mask.proofs.Laws.{mask-lt}
+use Rattle.table.specs.declared.Table.{Table}
+use Rattle.table.specs.Sound.{Sound}
+use Rattle.table.proofs.Columns.{column-in, column-beyond}
+use Rattle.schedule.specs.Periodic.{Valid, Constrained}
+use Rattle.schedule.specs.Response.{response}
+use Rattle.schedule.specs.Arrays.{tasksOf, higherOf}
+use Rattle.rules.specs.Placement.{placed}
+use Rattle.rules.specs.Sets.{Placeable, setsOf}
+use Rattle.rules.proofs.Sets.{sets-placed}
+use Rattle.judge.specs.Judge.{PlacementOf, firstUnknown, scheduledTasks, responseOf}
+use Rattle.judge.specs.Arrays.{Placed}
+
+-- no byte is unknown, so all name processors
+pub all-known : (m : ℕ) (q : List ℕ) → length q ≤ firstUnknown m q → (k : ℕ) → k < length q → getD q k 0 < m
+unfolding firstUnknown
+all-known m q l k j = go (first-below (length q) test) (decLt (getD q k 0) m)
+  where
+    test : ℕ → Bool
+    test i = leb m (getD q i 0)
+
+    go : FirstBelow (length q) test (firstBelow (length q) test) → Dec (getD q k 0 < m) → getD q k 0 < m
+    go f (yes i) = i
+    go (lowest a u h) (no i) = absurd (omega arith)
+    go (nowhere e h) (no i) = absurd (h k j (le→leb m (getD q k 0) (omega arith)))
+
+-- a placement's sets hold only its tasks
+sets-below : (q : List ℕ) (p : ℕ) → T (below (length q) (getD (setsOf q) p 0))
+unfolding setsOf
+sets-below q p = go (decLt p 8)
+  where
+    tasks : ℕ → ℕ
+    tasks r = maskOf (length q) (λ k. eqb (getD q k 0) r)
+
+    go : Dec (p < 8) → T (below (length q) (getD (setsOf q) p 0))
+    go (yes l) = rw (column-in 8 8 tasks p (omega arith) l) (lt→ltb (tasks p) (2 ^ length q) (mask-lt (length q) (λ k. eqb (getD q k 0) p)))
+    go (no l) = rw (column-beyond 8 8 tasks p (omega arith)) (lt→ltb 0 (2 ^ length q) (pow-pos (length q)))
+
+-- the response in the set of a task's processor
+pub response-placed : {n : ℕ} {c t d priority higher q sets : List ℕ} → Placed n c t d priority higher q sets → (k : ℕ)
+    → response (tasksOf n c t d priority) (has (getD sets (getD q k 0) 0)) k ≡ responseOf n c t d priority q k
+response-placed {n} {c} {t} {d} {priority} {higher} {q} {sets} w k = ap (λ (on : ℕ → Bool). response (tasksOf n c t d priority) on k) same
+  where
+    same : has (getD sets (getD q k 0) 0) ≡ (λ j. placed q j (getD q k 0))
+    same = ap (λ (l : List ℕ). has (getD l (getD q k 0) 0)) (w .on) ∙ fun-ext (λ j. ap (λ (on : ℕ → ℕ → Bool). on j (getD q k 0)) (sets-placed q (w .placeable)))
+
+module _ {t : Table} (s : Sound t) where
+  pub valid-tasks : Valid (scheduledTasks t)
+  valid-tasks = record {
+    works = s .tasks .works;
+    some-period = λ k l. omega (arith, s .tasks .works k l, s .tasks .c-d k l, s .tasks .d-t k l);
+    distinct = s .tasks .distinct;
+  }
+
+  pub constrained-tasks : Constrained (scheduledTasks t)
+  constrained-tasks = s .tasks .d-t
+
+  module _ {q : List ℕ} (w : PlacementOf t q) where
+    pub placeable-of : Placeable q
+    placeable-of = record { few = omega (arith, w .long, s .tasks .most); known = λ k l. omega (arith, w .known k l, s .processors .most) }
+
+    pub placed-of : {higher sets : List ℕ} → higher ≡ higherOf (t .tasks .count) (t .tasks .priority) → sets ≡ setsOf q
+        → Placed (t .tasks .count) (t .tasks .c) (t .tasks .t) (t .tasks .d) (t .tasks .priority) higher q sets
+    placed-of {higher} {sets} ranked e = record {
+      limits = λ p. record {
+        few = s .tasks .most;
+        some-work = s .tasks .works;
+        in-deadline = s .tasks .c-d;
+        in-period = s .tasks .d-t;
+        short-period = s .tasks .ticks;
+        distinct = s .tasks .distinct;
+        ranked = ranked;
+        inside = rw (e, ← (w .long)) (sets-below q p);
+      };
+      placeable = placeable-of;
+      long = w .long;
+      on = e;
+    }

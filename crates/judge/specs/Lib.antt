@@ -1,0 +1,3 @@
+pub mod Judge
+pub mod Arrays
+pub mod Good

@@ -1,0 +1,150 @@
+// The judgement of a placement, from the bytes of the file and of the placement.
+ghost use mathlib.Core.Path.{_≡_};
+ghost use lib.Dec.{ltb};
+ghost use Rattle.finite.specs.Finite.{only};
+ghost use Rattle.table.specs.Sound.{Sound};
+ghost use Rattle.rules.specs.Sets.{setsOf};
+ghost use Rattle.judge.specs.Judge.{PlacementOf, firstUnknown, responseOf, responsesOf, refusal, judgementBy, judgedOn, judgeOf, numberOf};
+ghost use Rattle.judge.specs.Arrays.{Placed};
+use rules::Check;
+use rules::Rule;
+use table::Outcome;
+use table::Table;
+use verdict::Cause;
+
+// What is answered on a placement.
+pub enum Judgement {
+    Refused(Cause, usize),
+    Kept,
+    Broken(Rule, usize),
+}
+
+// The judgement, and the response of each task; places beyond the tasks hold 0, and all do on a refusal.
+pub struct Judged {
+    pub judgement: Judgement,
+    pub responses: [u32; 24],
+}
+
+// The number that the buyer's configuration tool takes back.
+pub fn number(j: Judgement) -> u16
+    ensures { λ r. ⌜ r ≡ numberOf j ⌝ }
+{
+    match j {
+        Judgement::Refused(cause, _) => table::cause_number(cause),
+        Judgement::Kept => 0,
+        Judgement::Broken(rule, _) => rules::rule_number(rule),
+    }
+}
+
+fn refused(cause: Cause, place: usize) -> Judged
+    ensures { λ r. ⌜ r ≡ refusal cause place ⌝ }
+{
+    Judged {
+        judgement: Judgement::Refused(cause, place),
+        responses: [0; 24],
+    }
+}
+
+fn judgement_by(check: Check) -> Judgement
+    ensures { λ r. ⌜ r ≡ judgementBy check ⌝ }
+{
+    match check {
+        Check::Kept => Judgement::Kept,
+        Check::Broken(rule, k) => Judgement::Broken(rule, k),
+    }
+}
+
+// The index of the first byte that names none of the m processors; the length where there is none.
+fn first_unknown(placement: &[u8], m: usize) -> usize
+    ensures { λ r. ⌜ r ≡ firstUnknown m (now (placement .entry)) ⌝ }
+{
+    let mut k: usize = 0;
+    while k < placement.len() {
+        if m <= placement[k] as usize {
+            return k;
+        }
+        k += 1;
+    }
+    k
+}
+
+// The response of task k among the tasks that stand on its processor, 0 beyond the n tasks.
+fn response_at<'a>(
+    c: &'a [u32; 24],
+    t: &'a [u32; 24],
+    d: &'a [u32; 24],
+    priority: &'a [u32; 24],
+    higher: &'a [u32; 24],
+    placement: &'a [u8],
+    n: usize,
+    sets: [u32; 8],
+    k: usize,
+) -> u32
+    requires { ⌜ Placed n (now c) (now t) (now d) (now priority) (now higher) (now placement) sets ⌝ }
+    ensures { λ r. ⌜ r ≡ only (ltb k n) (responseOf n (now (c .entry)) (now (t .entry)) (now (d .entry)) (now (priority .entry)) (now (placement .entry)) k) ⌝ }
+{
+    if n <= k {
+        return 0;
+    }
+    let p = placement[k] as usize;
+    schedule::response(c, t, d, priority, higher, n, sets[p], k)
+}
+
+// The responses of all tasks.
+fn responses_of(table: Table, placement: &[u8], sets: [u32; 8]) -> [u32; 24]
+    requires { ⌜ Sound table × PlacementOf table (now placement) × (sets ≡ setsOf (now placement)) ⌝ }
+    ensures { λ r. ⌜ r ≡ responsesOf table (now (placement .entry)) ⌝ }
+{
+    let tasks = table.tasks;
+    let n = tasks.count;
+    let c = tasks.c;
+    let t = tasks.t;
+    let d = tasks.d;
+    let priority = tasks.priority;
+    let higher = schedule::higher(&priority, n);
+    let mut responses = [0u32; 24];
+    let mut k: usize = 0;
+    while k < 24 {
+        let response = response_at(&c, &t, &d, &priority, &higher, placement, n, sets, k);
+        responses[k] = response;
+        k += 1;
+    }
+    responses
+}
+
+// The judgement on a table that was read.
+fn judge_table(t: Table, placement: &[u8]) -> Judged
+    requires { ⌜ Sound t ⌝ }
+    ensures { λ r. ⌜ r ≡ judgedOn t (now (placement .entry)) ⌝ }
+{
+    let tasks = t.tasks;
+    let processors = t.processors;
+    if placement.len() != tasks.count {
+        return refused(Cause::PlacementLength, 0);
+    }
+    let unknown = first_unknown(placement, processors.count);
+    if unknown < placement.len() {
+        return refused(Cause::UnknownProcessor, unknown);
+    }
+    let sets = rules::sets_of(placement);
+    let responses = responses_of(t, placement, sets);
+    let check = rules::first_broken(t, sets, responses);
+    let judgement = judgement_by(check);
+    Judged {
+        judgement,
+        responses,
+    }
+}
+
+// The judgement on a placement of a file's tasks.
+pub fn judge(file: &[u8], placement: &[u8]) -> Judged
+    ensures { λ r. ⌜ r ≡ judgeOf (now (file .entry)) (now (placement .entry)) ⌝ }
+{
+    let reading = table::read(file);
+    let outcome = reading.outcome;
+    let t = reading.table;
+    match outcome {
+        Outcome::Refused(cause, place) => refused(cause, place),
+        Outcome::Readable => judge_table(t, placement),
+    }
+}
