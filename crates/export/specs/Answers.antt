@@ -1,4 +1,6 @@
 -- The numbers that C takes back.
+use mathlib.Core.Path.{_≡_}
+use mathlib.Core.List.{List}
 use Prim.Native.Nat.{ℕ, _+_, _*_}
 use Rattle.verdict.specs.declared.Cause.{Cause}
 use Rattle.table.specs.declared.Outcome.{Outcome}
@@ -7,6 +9,9 @@ use Rattle.table.specs.Refusal.{causeNumber}
 use Rattle.conflict.specs.declared.Answer.{Answer}
 use Rattle.conflict.specs.declared.Answer.the-variants as answers
 use Rattle.conflict.specs.Conflict.{numberOf}
+use Rattle.search.specs.declared.Answer as searched
+use Rattle.search.specs.declared.Answer.the-variants as searches
+use Rattle.search.specs.Search.{Searched}
 
 -- a refusal: its number times 2 ^ 32, and its place
 abbrev pub refusedAs : Cause → ℕ → ℕ
@@ -21,3 +26,14 @@ readAs (Refused cause place) = refusedAs cause place
 abbrev pub conflictAs : Answer → ℕ
 conflictAs (answers.Refused cause place) = refusedAs cause place
 conflictAs (answers.Found finding) = numberOf finding
+
+-- a search: the count of bytes written, or the refusal
+abbrev pub searchAs : searched.Answer → ℕ
+searchAs (searches.Refused cause place) = refusedAs cause place
+searchAs (searches.Written count) = count
+
+-- a search: what it leaves of the buffer, and the number that stands for its answer
+pub record SearchedAs (file old new : List ℕ) (r : ℕ) : Type 0 where
+  pub answer : searched.Answer
+  pub searched : Searched file old new answer
+  pub number : r ≡ searchAs answer

@@ -5,7 +5,7 @@ ghost use Rattle.table.specs.Table.{readOf};
 ghost use Rattle.judge.specs.Judge.{judgeOf, numberOf};
 ghost use Rattle.conflict.specs.Count.{lateCountOf};
 ghost use Rattle.conflict.specs.Entry.{answerOf};
-ghost use Rattle.export.specs.Answers.{refusedAs, readAs, conflictAs};
+ghost use Rattle.export.specs.Answers.{refusedAs, readAs, conflictAs, SearchedAs};
 use conflict::Answer;
 use table::Outcome;
 use verdict::Cause;
@@ -49,6 +49,18 @@ pub extern "C" fn placement_judge(file: &[u8], placement: &[u8]) -> u16
     let judged = judge::judge(file, placement);
     let judgement = judged.judgement;
     judge::number(judgement)
+}
+
+// The first placement, the conflicts before it and the mark, into the answer buffer: the count of bytes written, or the refusal.
+#[no_mangle]
+pub extern "C" fn placement_search(file: &[u8], answer: &mut [u8]) -> u64
+    ensures { λ r. ⌜ SearchedAs (now (file .entry)) (now (answer .entry)) (now (answer .exit)) r ⌝ }
+{
+    let searched = search::search(file, answer);
+    match searched {
+        search::Answer::Refused(cause, place) => refused_as(cause, place),
+        search::Answer::Written(count) => count as u64,
+    }
 }
 
 // For measuring: one lateness test for each set, on a file that is read once.

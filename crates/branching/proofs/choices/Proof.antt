@@ -1,0 +1,37 @@
+-- At most one is counted for each processor passed.
+use borrow.Author.Needs.{needs}
+use mathlib.Core.Logic.{⊎-elim}
+use Prim.Native.Nat.{_-_, _≤_}
+use native.Mathlib.Omega.{arith}
+use Rattle.branching.proofs.Open.{open-low, limits-with}
+use Rattle.branching.proofs.choices.Statement.{statement}
+use Rattle.branching.proofs.choices.Tie as tie
+
+abbrev Inv-loop : tie.InvT-loop
+Inv-loop work period deadline priority higher residence memory exclusions co sender receiver loads amounts sizes k most s count₀ p₀ count p =
+    (p ≤ sizes .processors) × (count ≤ p)
+
+abbrev μ-loop : tie.MeasureT-loop
+μ-loop work period deadline priority higher residence memory exclusions co sender receiver loads amounts sizes k most s count₀ p₀ count p =
+    sizes .processors - p
+
+pub choices-spec : {M : Type 1} → statement M
+choices-spec =
+    tie.close
+    (tie.spec
+    Inv-loop
+    μ-loop
+    (λ c. search needs)  -- loop-holds
+    (λ c κs. let z = c .before .before .before .before .pre in ((z .0 .0, z .0 .1 .rules, z .0 .2), z .1, search needs))  -- allows-requires
+    (λ c. search needs)  -- mul-insert
+    (λ c. search needs)  -- element-copy-out-insert
+    (λ c κs. let z = c .before .before .before .before .before .before .before .pre in omega (arith, open-low (z .0 .1) (z .0 .2) _ (z .1)))  -- insert-requires
+    (λ c κs.
+    let z = c .before .before .before .before .before .before .before .before .pre in
+    rw (c .insert .ensures) (limits-with (z .0 .1) (z .0 .2) _ (z .1) _))  -- is-late-requires
+    (λ c. search needs)  -- add-count
+    (λ c. search needs)  -- add-p
+    (λ c. search needs)  -- loop-less
+    (λ c. ⊎-elim (λ w. search needs) (⊎-elim (λ w. search needs) (λ w. search needs)) (c .if3 .came))  -- loop-again
+    (λ c. search needs)  -- returns
+    (λ c. search needs))  -- returns-2

@@ -1,0 +1,35 @@
+-- `amount_at` meets its contract. Assumes nothing.
+use Prim.Native.Nat.{_≤_, _<_}
+use native.Mathlib.Omega.{arith}
+use borrow.Author.Needs.{needs}
+use borrow.Author.Tests.{lt-ltb, le-ltb}
+use lib.ListN.{getD}
+use Rattle.rules.proofs.Bounds.{amount-bound}
+use Rattle.columns.proofs.amount_at.Statement.{statement}
+use Rattle.columns.proofs.amount_at.Tie as tie
+
+-- the message's sender is in the table, and its period is no less than its deadline
+sender : (c : tie.Else1) → let a = c .before .before .args in let i = getD (a .t .messages .sender) (a .j) 0 in (i < 24) × (1 ≤ getD (a .t .tasks .d) i 0) × (getD (a .t .tasks .d) i 0 ≤ getD (a .t .tasks .t) i 0)
+sender c =
+    let s = c .before .before .pre in
+    let i = getD (c .before .before .args .t .messages .sender) (c .before .before .args .j) 0 in
+    let l = s .messages .from-task (c .before .before .args .j) (c .if1 .left) in
+    omega (arith, s .tasks .most, s .tasks .works i l, s .tasks .c-d i l, s .tasks .d-t i l)
+
+pub amount-at-spec : {M : Type 1} → statement M
+amount-at-spec =
+    tie.close
+    (tie.spec
+    (λ c. rw (le-ltb _ _ (c .if1 .taken)))  -- returns
+    (λ c. search needs)  -- mul-sender
+    (λ c. search needs)  -- element-copy-out-sender
+    (λ c. record { fits = omega (arith, sender (c .before .before)) })  -- cast-sender
+    (λ c. search needs)  -- mul-wide
+    (λ c. search needs)  -- element-copy-out-wide
+    (λ c κs. search needs)  -- wide-requires
+    (λ c. let e = c .before .before .before .before .before in record { fits = rw (c .before .wide .ensures) (omega (arith, amount-bound (e .before .before .args .t) (e .before .before .pre) (e .before .before .args .j) (e .if1 .left))) })  -- mul-result
+    (λ c. record { fits = omega (arith, sender (c .before .before .before .before .before)) })  -- mul-wide-2
+    (λ c. sender (c .before .before .before .before .before) .0)  -- element-copy-out-wide-2
+    (λ c κs. search needs)  -- wide-requires-2
+    (λ c. omega (arith, c .wide2 .ensures, sender (c .before .before .before .before .before .before .before)))  -- div-result
+    (λ c. rw (lt-ltb _ _ (c .before .before .before .before .before .before .before .if1 .left), c .before .before .before .wide .ensures, c .wide2 .ensures)))  -- returns-2

@@ -1,0 +1,246 @@
+// The search of document 01 for the first placement: task by task, processors in rising number.
+ghost use mathlib.Core.Path.{_≡_};
+ghost use Prim.Native.Nat.{_<_};
+ghost use Rattle.table.specs.declared.Table.{Table};
+ghost use Rattle.region.specs.Lends.{Lends};
+ghost use Rattle.first.specs.First.{Placing, TriedAs, FirstOf};
+use partial::Sizes;
+use partial::State;
+
+// A task on a processor: whether it is taken, the sets of a good placement, how many conflicts are listed, and whether the list is cut.
+pub struct Tried {
+    pub taken: bool,
+    pub on: [u32; 8],
+    pub count: usize,
+    pub cut: bool,
+}
+
+// The sets of the first placement, how many conflicts are listed, and whether the list is cut.
+pub struct Reached {
+    pub on: [u32; 8],
+    pub count: usize,
+    pub cut: bool,
+}
+
+// Task k on processor p. It is taken where a good placement has it there: the one at hand, or one that is found.
+// Otherwise the region is passed over, and its conflicts are listed unless the list is cut already.
+fn try_processor<'a>(
+    work: &'a [u32; 24],
+    period: &'a [u32; 24],
+    deadline: &'a [u32; 24],
+    priority: &'a [u32; 24],
+    higher: &'a [u32; 24],
+    residence: &'a [u32; 24],
+    memory: &'a [u32; 24],
+    exclusions: &'a [u32; 24],
+    co: &'a [u32; 16],
+    sender: &'a [u32; 64],
+    receiver: &'a [u32; 64],
+    loads: &'a [u64; 24],
+    amounts: &'a [u64; 64],
+    sizes: Sizes,
+    s: State,
+    k: usize,
+    p: usize,
+    witness: [u32; 8],
+    list: &mut [u8],
+    places: usize,
+    count: usize,
+    cut: bool,
+) -> Tried
+    requires { ⌜ ((t : Table) × Lends t sizes (now work) (now period) (now deadline) (now priority) (now higher) (now residence) (now memory) (now exclusions) (now co) (now sender) (now receiver) (now loads) (now amounts) × Placing t places s k witness (now list) count) × (k < sizes .tasks) × (p < sizes .processors) ⌝ }
+    ensures { λ r. ⌜ ((t : Table) → Lends t sizes (now (work .entry)) (now (period .entry)) (now (deadline .entry)) (now (priority .entry)) (now (higher .entry)) (now (residence .entry)) (now (memory .entry)) (now (exclusions .entry)) (now (co .entry)) (now (sender .entry)) (now (receiver .entry)) (now (loads .entry)) (now (amounts .entry))
+        → Placing t places s k witness (now (list .entry)) count → TriedAs t places s k p witness (now (list .entry)) count cut (now (list .exit)) r) ⌝ }
+{
+    if mask::has(witness[p], k) {
+        return Tried {
+            taken: true,
+            on: witness,
+            count,
+            cut,
+        };
+    }
+    // Deciding lists nothing: it is lent a list without places.
+    let mut no_list = [0u8; 3];
+    let decided = seek::explore(
+        work,
+        period,
+        deadline,
+        priority,
+        higher,
+        residence,
+        memory,
+        exclusions,
+        co,
+        sender,
+        receiver,
+        loads,
+        amounts,
+        sizes,
+        s,
+        k,
+        p,
+        false,
+        &mut no_list,
+        0,
+        0,
+    );
+    if decided.found {
+        let on = decided.on;
+        return Tried {
+            taken: true,
+            on,
+            count,
+            cut,
+        };
+    }
+    if cut {
+        return Tried {
+            taken: false,
+            on: witness,
+            count,
+            cut,
+        };
+    }
+    let listed = seek::explore(
+        work,
+        period,
+        deadline,
+        priority,
+        higher,
+        residence,
+        memory,
+        exclusions,
+        co,
+        sender,
+        receiver,
+        loads,
+        amounts,
+        sizes,
+        s,
+        k,
+        p,
+        true,
+        list,
+        places,
+        count,
+    );
+    Tried {
+        taken: false,
+        on: witness,
+        count: listed.count,
+        cut: listed.found,
+    }
+}
+
+// The search of document 01: task by task, processors in rising number, calling itself for the next task.
+pub fn first<'a>(
+    work: &'a [u32; 24],
+    period: &'a [u32; 24],
+    deadline: &'a [u32; 24],
+    priority: &'a [u32; 24],
+    higher: &'a [u32; 24],
+    residence: &'a [u32; 24],
+    memory: &'a [u32; 24],
+    exclusions: &'a [u32; 24],
+    co: &'a [u32; 16],
+    sender: &'a [u32; 64],
+    receiver: &'a [u32; 64],
+    loads: &'a [u64; 24],
+    amounts: &'a [u64; 64],
+    sizes: Sizes,
+    s: State,
+    k: usize,
+    witness: [u32; 8],
+    list: &mut [u8],
+    places: usize,
+    count: usize,
+    cut: bool,
+) -> Reached
+    requires { ⌜ ((t : Table) × Lends t sizes (now work) (now period) (now deadline) (now priority) (now higher) (now residence) (now memory) (now exclusions) (now co) (now sender) (now receiver) (now loads) (now amounts) × Placing t places s k witness (now list) count) ⌝ }
+    ensures { λ r. ⌜ ((t : Table) → Lends t sizes (now (work .entry)) (now (period .entry)) (now (deadline .entry)) (now (priority .entry)) (now (higher .entry)) (now (residence .entry)) (now (memory .entry)) (now (exclusions .entry)) (now (co .entry)) (now (sender .entry)) (now (receiver .entry)) (now (loads .entry)) (now (amounts .entry))
+        → Placing t places s k witness (now (list .entry)) count → FirstOf t places s (now (list .entry)) count cut (now (list .exit)) r) ⌝ }
+{
+    let on = s.on;
+    if k == sizes.tasks {
+        return Reached { on, count, cut };
+    }
+    let mut at = count;
+    let mut marked = cut;
+    let mut p: usize = 0;
+    while p < sizes.processors {
+        let tried = try_processor(
+            work,
+            period,
+            deadline,
+            priority,
+            higher,
+            residence,
+            memory,
+            exclusions,
+            co,
+            sender,
+            receiver,
+            loads,
+            amounts,
+            sizes,
+            s,
+            k,
+            p,
+            witness,
+            list,
+            places,
+            at,
+            marked,
+        );
+        at = tried.count;
+        marked = tried.cut;
+        if tried.taken {
+            let step = partial::step(
+                residence,
+                memory,
+                exclusions,
+                co,
+                sender,
+                receiver,
+                loads,
+                amounts,
+                sizes,
+                s,
+                k,
+                p,
+            );
+            let next = step.next;
+            let held = tried.on;
+            return first(
+                work,
+                period,
+                deadline,
+                priority,
+                higher,
+                residence,
+                memory,
+                exclusions,
+                co,
+                sender,
+                receiver,
+                loads,
+                amounts,
+                sizes,
+                next,
+                k + 1,
+                held,
+                list,
+                places,
+                at,
+                marked,
+            );
+        }
+        p += 1;
+    }
+    Reached {
+        on,
+        count: at,
+        cut: marked,
+    }
+}

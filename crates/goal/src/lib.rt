@@ -1,0 +1,1 @@
+// What the search must answer: definitions and laws, no function.

@@ -1,0 +1,4 @@
+pub mod Masks
+pub mod Growth
+pub mod Append
+pub mod Verdicts

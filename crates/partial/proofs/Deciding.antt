@@ -1,0 +1,187 @@
+-- The tests on the lent columns decide whether the open task k on processor p keeps the rules. Assumes nothing.
+use mathlib.Core.Path.{_≡_, refl, _∙_}
+use mathlib.Core.Logic.{_⊎_, inl, inr}
+use mathlib.Core.Bool.{Bool, true, false, not, _&&_, _||_}
+use mathlib.Core.List.{List}
+use Prim.Native.Nat.{ℕ, _+_, _*_, _/_, _≤_, _<_}
+use native.Mathlib.Omega.{arith}
+use borrow.Author.Tests.{leb-true, leb-false, not-true, not-false}
+use lib.Dec.{T, leb, ltb, T-not, not-T, leb→le, le→leb, ltb→lt, lt→ltb}
+use lib.ListN.{getD}
+use Rattle.finite.proofs.Some.{or-left, or-right, or-either}
+use Rattle.mask.specs.Mask.{has}
+use Rattle.mask.proofs.Tests.{same-test, and-both, and-left, and-right}
+use Rattle.mask.proofs.Laws.{has-mask}
+use Rattle.table.specs.declared.Table.{Table}
+use Rattle.table.proofs.Columns.{column-in}
+use Rattle.rules.specs.Placement.{andTask, elsewhere}
+use Rattle.rules.specs.Rules.{amountOf, traffic, networkBroken, Keeps}
+use Rattle.rules.specs.Sets.{standing, meets}
+use Rattle.rules.proofs.Bounds.{amount-bound}
+use Rattle.rules.proofs.Where.{elsewhere-elim, elsewhere-intro}
+use Rattle.columns.specs.Columns.{loadsOf, amountsOf, excludedFrom, exclusionsOf}
+use Rattle.partial.specs.declared.State.{State}
+use Rattle.partial.specs.declared.Sizes.{Sizes}
+use Rattle.partial.specs.Partial.{Lent, Fits}
+use Rattle.partial.specs.Tests.{neither, suits, parted, between, SmallMessages, TrialOf}
+use Rattle.partial.proofs.OneMore as one
+
+-- the tasks that are neither open nor on p stand on another processor
+pub others-stand : {t : Table} {s : State} → Fits t s → (p j : ℕ)
+    → has (neither (t .tasks .count) (s .left) (getD (s .on) p 0)) j ≡ elsewhere (t .processors .count) p (standing (s .on) j)
+unfolding neither
+others-stand {t} {s} f p j = has-mask n (λ i. not (has here i || has (s .left) i)) j ∙ same-test (ltb j n && out) (elsewhere m p (standing (s .on) j)) forth back
+  where
+    n : ℕ
+    n = t .tasks .count
+
+    m : ℕ
+    m = t .processors .count
+
+    here : ℕ
+    here = getD (s .on) p 0
+
+    out : Bool
+    out = not (has here j || has (s .left) j)
+
+    forth : T (ltb j n && out) → T (elsewhere m p (standing (s .on) j))
+    forth u =
+        let nowhere = T-not (has here j || has (s .left) j) (and-right (ltb j n) out u) in
+        let at = f .placed-task j (ltb→lt j n (and-left (ltb j n) out u)) (λ x. nowhere (or-right (has here j) (has (s .left) j) x)) in
+        elsewhere-intro m (standing (s .on) j) (f .partial .processor j (at .0) (at .1)) (λ e. nowhere (or-left (has here j) (has (s .left) j) (rw e at (at .1)))) (at .1)
+
+    back : T (elsewhere m p (standing (s .on) j)) → T (ltb j n && out)
+    back u =
+        let e = elsewhere-elim m (standing (s .on) j) u in
+        and-both (ltb j n) out (lt→ltb j n (f .partial .task j (e .0) (e .3)))
+        (not-T (has here j || has (s .left) j) (λ x. go (e .0) (e .3) (λ q. e .2 q) (or-either (has here j) (has (s .left) j) x)))
+      where
+        go : (r : ℕ) → T (standing (s .on) j r) → (r ≡ p → ⊥) → T (has here j) ⊎ T (has (s .left) j) → ⊥
+        go r v d (inl x) = d (f .partial .once j r p v x)
+        go r v d (inr x) = f .open-task j x .1 r v
+
+module _ {t : Table} {sizes : Sizes} {residence memory exclusions co sender receiver loads amounts : List ℕ} {s : State}
+    (e : Lent t sizes residence memory exclusions co sender receiver loads amounts) (f : Fits t s)
+    (k p : ℕ) (free : T (has (s .left) k)) (low : p < sizes .processors) where
+  task : k < t .tasks .count
+  task = f .open-task k free .0
+
+  on-table : p < t .processors .count
+  on-table = omega (arith, e .processors)
+
+  excluded-at : getD exclusions k 0 ≡ excludedFrom t k
+  unfolding exclusionsOf
+  excluded-at = rw (e .same-exclusions) (column-in 24 (t .tasks .count) (excludedFrom t) k (e .sound .tasks .most) task)
+
+  pub load-at : getD loads k 0 ≡ getD (t .tasks .c) k 0 * t .hyperperiod / getD (t .tasks .t) k 0
+  unfolding loadsOf
+  load-at = rw (e .same-loads) (column-in 24 (t .tasks .count) (λ i. getD (t .tasks .c) i 0 * t .hyperperiod / getD (t .tasks .t) i 0) k (e .sound .tasks .most) task)
+
+  others-at : (j : ℕ) → has (neither (sizes .tasks) (s .left) (getD (s .on) p 0)) j ≡ elsewhere (t .processors .count) p (standing (s .on) j)
+  others-at j = rw (e .tasks) (others-stand f p j)
+
+  -- what task k on p adds to the network
+  pub traffic-with : traffic t (andTask (standing (s .on)) k p)
+      ≡ traffic t (standing (s .on)) + between sender receiver amounts (sizes .messages) k (neither (sizes .tasks) (s .left) (getD (s .on) p 0))
+  traffic-with =
+      one.traffic-more t (e .sound) (standing (s .on)) (f .keeps) k p task on-table (f .open-task k free .1) (neither (sizes .tasks) (s .left) (getD (s .on) p 0)) others-at
+      ∙ rw (e .same-sender, e .same-receiver, e .same-amounts, e .messages) refl
+
+  -- ---- rules that are kept
+
+  pub keeps-memory : Keeps t (andTask (standing (s .on)) k p) → getD memory k 0 ≤ getD (s .memory) p 0
+  keeps-memory keeps = rw (e .same-memory)
+      (one.memory-needed t (e .sound) (standing (s .on)) (f .keeps) k p task on-table (f .open-task k free .1) (getD (s .memory) p 0) (f .memory p on-table) keeps)
+
+  pub keeps-load : Keeps t (andTask (standing (s .on)) k p) → getD loads k 0 ≤ getD (s .load) p 0
+  keeps-load keeps = rw load-at
+      (one.utilisation-needed t (e .sound) (standing (s .on)) (f .keeps) k p task on-table (f .open-task k free .1) (getD (s .load) p 0) (f .load p on-table) keeps)
+
+  pub keeps-whole : Keeps t (andTask (standing (s .on)) k p) → T (parted co (sizes .groups) k (neither (sizes .tasks) (s .left) (getD (s .on) p 0))) → ⊥
+  keeps-whole keeps = rw (e .same-co, e .groups)
+      (one.co-residence-needed t (e .sound) (standing (s .on)) (f .keeps) k p task on-table (neither (sizes .tasks) (s .left) (getD (s .on) p 0)) others-at keeps)
+
+  pub keeps-carries : Keeps t (andTask (standing (s .on)) k p) → between sender receiver amounts (sizes .messages) k (neither (sizes .tasks) (s .left) (getD (s .on) p 0)) ≤ s .traffic
+  unfolding networkBroken
+  keeps-carries keeps =
+      omega (arith, traffic-with, f .traffic, one.kept-le (t .capacity * t .hyperperiod) (traffic t (andTask (standing (s .on)) k p)) (keeps .network))
+
+  -- what the task itself asks of p
+  pub keeps-suits : Keeps t (andTask (standing (s .on)) k p) → T (suits residence memory exclusions loads s k p)
+  unfolding suits
+  keeps-suits keeps =
+      let old = f .keeps in
+      and-both (has (getD residence k 0) p && leb (getD memory k 0) (getD (s .memory) p 0)) _
+      (and-both (has (getD residence k 0) p) _
+      (rw (e .same-residence) (one.residence-needed t (e .sound) (standing (s .on)) old k p task on-table keeps))
+      (le→leb _ _ (keeps-memory keeps)))
+      (and-both (leb (getD loads k 0) (getD (s .load) p 0)) _
+      (le→leb _ _ (keeps-load keeps))
+      (not-T (meets (getD exclusions k 0) (getD (s .on) p 0)) (rw excluded-at (one.exclusion-needed t (e .sound) (standing (s .on)) old k p task on-table (getD (s .on) p 0) (λ j. refl) keeps))))
+
+  -- tests that pass
+  pub tests-keep : T (suits residence memory exclusions loads s k p)
+      → (T (parted co (sizes .groups) k (neither (sizes .tasks) (s .left) (getD (s .on) p 0))) → ⊥)
+      → between sender receiver amounts (sizes .messages) k (neither (sizes .tasks) (s .left) (getD (s .on) p 0)) ≤ s .traffic
+      → Keeps t (andTask (standing (s .on)) k p)
+  unfolding suits networkBroken
+  tests-keep u whole carries =
+      let old = f .keeps in
+      let sound = e .sound in
+      let on = standing (s .on) in
+      let new = f .open-task k free .1 in
+      let first = and-left (has (getD residence k 0) p && leb (getD memory k 0) (getD (s .memory) p 0)) _ u in
+      let second = and-right (has (getD residence k 0) p && leb (getD memory k 0) (getD (s .memory) p 0)) _ u in
+      record {
+        residence = one.residence-kept t sound on old k p task on-table (rw (e .same-residence) at (and-left (has (getD residence k 0) p) _ first));
+        co-residence = one.co-residence-kept t sound on old k p task on-table (neither (sizes .tasks) (s .left) (getD (s .on) p 0)) others-at (rw (e .same-co, e .groups) at whole);
+        exclusion = one.exclusion-kept t sound on old k p task on-table (getD (s .on) p 0) (λ j. refl)
+            (rw excluded-at at (T-not (meets (getD exclusions k 0) (getD (s .on) p 0)) (and-right (leb (getD loads k 0) (getD (s .load) p 0)) _ second)));
+        memory = one.memory-kept t sound on old k p task on-table new (getD (s .memory) p 0) (f .memory p on-table)
+            (rw (e .same-memory) at (leb→le (getD memory k 0) (getD (s .memory) p 0) (and-right (has (getD residence k 0) p) _ first)));
+        utilisation = one.utilisation-kept t sound on old k p task on-table new (getD (s .load) p 0) (f .load p on-table)
+            (rw load-at at (leb→le (getD loads k 0) (getD (s .load) p 0) (and-left (leb (getD loads k 0) (getD (s .load) p 0)) _ second)));
+        network = one.le-kept (t .capacity * t .hyperperiod) (traffic t (andTask on k p)) (omega (arith, traffic-with, f .traffic));
+      }
+
+  -- ---- the answer, as the code comes to it
+
+  pub own-test-fails : {own : Bool} → own ≡ suits residence memory exclusions loads s k p → not own ≡ true → Keeps t (andTask (standing (s .on)) k p) → ⊥
+  own-test-fails {own} a no-own keeps = rw (← a, not-true own no-own) at (keeps-suits keeps)
+
+  module _ {others : ℕ} (o : others ≡ neither (sizes .tasks) (s .left) (getD (s .on) p 0)) where
+    pub group-parted : {apart : Bool} → apart ≡ parted co (sizes .groups) k others → apart ≡ true → Keeps t (andTask (standing (s .on)) k p) → ⊥
+    group-parted b is-apart keeps = keeps-whole keeps (rw (← o, ← b, is-apart) tt)
+
+    -- the last test decides
+    pub network-decides : {own apart : Bool} {added : ℕ} → own ≡ suits residence memory exclusions loads s k p → not own ≡ false → apart ≡ parted co (sizes .groups) k others → apart ≡ false
+        → added ≡ between sender receiver amounts (sizes .messages) k others → TrialOf t s k p (leb added (s .traffic)) added
+    network-decides {own} {apart} {added} a is-own b not-apart d = go (leb added (s .traffic)) refl
+      where
+        sum : added ≡ between sender receiver amounts (sizes .messages) k (neither (sizes .tasks) (s .left) (getD (s .on) p 0))
+        sum = rw (← o) d
+
+        go : (x : Bool) → leb added (s .traffic) ≡ x → TrialOf t s k p x added
+        go true q = record {
+          keeps = tests-keep (rw (← a, not-false own is-own) tt) (rw (← o, ← b, not-apart) (λ u. u)) (omega (arith, leb-true added (s .traffic) q, sum));
+          traffic = rw sum traffic-with;
+        }
+        go false q = λ keeps. omega (arith, leb-false added (s .traffic) q, sum, keeps-carries keeps)
+
+  -- ---- what the columns and sizes are below
+
+  pub bounds : (k < 24) × (p < 8) × (sizes .tasks ≤ 24) × (sizes .groups ≤ 16)
+  bounds =
+      let sound = e .sound in
+      (omega (arith, task, sound .tasks .most), omega (arith, sound .processors .most, on-table), omega (arith, e .tasks, sound .tasks .most), omega (arith, e .groups, sound .co .most))
+
+  pub carried : SmallMessages sender receiver amounts (sizes .messages)
+  unfolding amountsOf
+  carried =
+      let sound = e .sound in
+      record {
+        few = omega (arith, e .messages, sound .messages .most);
+        from-task = λ j l. rw (e .same-sender) (omega (arith, e .messages, sound .messages .from-task j (omega (arith, e .messages)), sound .tasks .most));
+        to-task = λ j l. rw (e .same-receiver) (omega (arith, e .messages, sound .messages .to-task j (omega (arith, e .messages)), sound .tasks .most));
+        small = λ j l. rw (e .same-amounts, column-in 64 (t .messages .count) (amountOf t) j (sound .messages .most) (omega (arith, e .messages))) (amount-bound t sound j (omega (arith, e .messages)) .1);
+      }

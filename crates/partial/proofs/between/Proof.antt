@@ -1,0 +1,47 @@
+-- `between` meets its contract. Assumes nothing.
+use mathlib.Core.Path.{refl, sym, _∙_}
+use mathlib.Core.Logic.{⊎-elim}
+use Prim.Native.Nat.{_-_}
+use native.Mathlib.Omega.{arith}
+use borrow.Author.Needs.{needs}
+use lib.ListN.{getD}
+use Rattle.rules.proofs.SumLoop.{Summing, summing-start, summing-in, summing-out, summing-end}
+use Rattle.partial.specs.Tests.{joins, between}
+use Rattle.partial.proofs.between.Statement.{statement}
+use Rattle.partial.proofs.between.Tie as tie
+
+abbrev Inv-loop : tie.InvT-loop
+Inv-loop sender receiver amounts messages k others sum₀ j₀ sum j =
+    Summing messages (λ i. joins k others (getD sender i 0) (getD receiver i 0)) (λ i. getD amounts i 0) 1000000000000000 j sum
+
+abbrev μ-loop : tie.MeasureT-loop
+μ-loop sender receiver amounts messages k others sum₀ j₀ sum j = messages - j
+
+pub between-spec : {M : Type 1} → statement M
+unfolding between
+between-spec =
+    tie.close
+    (tie.spec
+    Inv-loop
+    μ-loop
+    (λ c. summing-start)  -- loop-holds
+    (λ c. search needs)  -- mul-joins
+    (λ c. search needs)  -- element-copy-out-joins
+    (λ c. search needs)  -- mul-joins-2
+    (λ c. search needs)  -- element-copy-out-joins-2
+    (λ c κs. let l = c .before .before in let p = l .before .before .pre in (p .from-task _ (l .loop-test .taken), p .to-task _ (l .loop-test .taken)))  -- joins-requires
+    (λ c. search needs)  -- mul-sum
+    (λ c. search needs)  -- element-copy-out-sum
+    (λ c.
+    let l = c .before .before .before .before .before in
+    let p = l .before .before .pre in
+    record { fits = omega (arith, l .before .loop .inv .small, p .few, p .small _ (l .loop-test .taken)) })  -- add-sum
+    (λ c. search needs)  -- add-j
+    (λ c. search needs)  -- loop-less
+    (λ c.
+    let l = c .before .before .before .before in
+    ⊎-elim
+    (λ w. rw (w .2) (summing-in (l .before .loop .inv) (l .loop-test .taken) (sym (c .before .joins .ensures) ∙ w .0 .taken) refl (l .before .before .pre .small _ (l .loop-test .taken))))
+    (λ w. rw (w .1) (summing-out (l .before .loop .inv) (l .loop-test .taken) (sym (c .before .joins .ensures) ∙ w .0 .left)))
+    (c .if1 .came))  -- loop-again
+    (λ c. summing-end (c .before .loop .inv) (c .loop-test .left)))  -- returns

@@ -1,0 +1,78 @@
+-- A partial placement as the search holds it: the set of tasks on each processor, the open tasks, and what each processor and the network have left.
+use mathlib.Core.Path.{_≡_}
+use mathlib.Core.Bool.{Bool, true, false}
+use mathlib.Core.List.{List}
+use Prim.Native.Nat.{ℕ, _+_, _*_, _/_, _<_}
+use lib.Dec.{T}
+use lib.ListN.{length, getD}
+use Rattle.mask.specs.Mask.{has, removeOf}
+use Rattle.table.specs.declared.Table.{Table}
+use Rattle.table.specs.Sound.{Sound}
+use Rattle.rules.specs.Placement.{andTask}
+use Rattle.rules.specs.Rules.{Keeps, memoryOn, loadOn, traffic}
+use Rattle.rules.specs.Sets.{standing}
+use Rattle.columns.specs.Columns.{loadsOf, amountsOf, exclusionsOf}
+use Rattle.partial.specs.declared.State.{State}
+use Rattle.partial.specs.declared.Sizes.{Sizes}
+
+-- the table whose columns are lent to the search
+pub record Lent (t : Table) (sizes : Sizes) (residence memory exclusions co sender receiver loads amounts : List ℕ) : Type 0 where
+  pub sound : Sound t
+  pub tasks : sizes .tasks ≡ t .tasks .count
+  pub processors : sizes .processors ≡ t .processors .count
+  pub groups : sizes .groups ≡ t .co .count
+  pub messages : sizes .messages ≡ t .messages .count
+  pub same-residence : residence ≡ t .tasks .residence
+  pub same-memory : memory ≡ t .tasks .memory
+  pub same-exclusions : exclusions ≡ exclusionsOf t
+  pub same-co : co ≡ t .co .mask
+  pub same-sender : sender ≡ t .messages .sender
+  pub same-receiver : receiver ≡ t .messages .receiver
+  pub same-loads : loads ≡ loadsOf t
+  pub same-amounts : amounts ≡ amountsOf t
+
+-- tasks of the table on its processors, none on two of them
+pub record Partial (t : Table) (sets : List ℕ) : Type 0 where
+  pub long : length sets ≡ 8
+  pub task : (k p : ℕ) → T (standing sets k p) → k < t .tasks .count
+  pub processor : (k p : ℕ) → T (standing sets k p) → p < t .processors .count
+  pub once : (k p r : ℕ) → T (standing sets k p) → T (standing sets k r) → p ≡ r
+
+-- every task stands on a processor
+pub record Whole (t : Table) (sets : List ℕ) : Type 0 where
+  pub partial : Partial t sets
+  pub somewhere : (k : ℕ) → k < t .tasks .count → (p : ℕ) × T (standing sets k p)
+
+-- a state of the search: a partial placement that keeps the rules, the tasks that it leaves open, and what is left of memory, load and network
+pub record Fits (t : Table) (s : State) : Type 0 where
+  pub partial : Partial t (s .on)
+  pub keeps : Keeps t (standing (s .on))
+  pub open-task : (k : ℕ) → T (has (s .left) k) → (k < t .tasks .count) × ((p : ℕ) → T (standing (s .on) k p) → ⊥)
+  pub placed-task : (k : ℕ) → k < t .tasks .count → (T (has (s .left) k) → ⊥) → (p : ℕ) × T (standing (s .on) k p)
+  pub memory-long : length (s .memory) ≡ 8
+  pub memory : (p : ℕ) → p < t .processors .count → getD (s .memory) p 0 + memoryOn t (standing (s .on)) p ≡ getD (t .processors .memory) p 0
+  pub load-long : length (s .load) ≡ 8
+  pub load : (p : ℕ) → p < t .processors .count → getD (s .load) p 0 + loadOn t (standing (s .on)) p ≡ getD (t .processors .limit) p 0 * t .hyperperiod / 1000
+  pub traffic : s .traffic + traffic t (standing (s .on)) ≡ t .capacity * t .hyperperiod
+
+-- the state with the open task k on processor p
+pub record Stepped (t : Table) (s : State) (k p : ℕ) (r : State) : Type 0 where
+  pub fits : Fits t r
+  pub on : standing (r .on) ≡ andTask (standing (s .on)) k p
+  pub left : r .left ≡ removeOf (s .left) k
+
+-- the answer of a step: the rules would be broken, or they are kept and this is the state
+abbrev pub StepOf : Table → State → ℕ → ℕ → Bool → State → Type 0
+StepOf t s k p false next = Keeps t (andTask (standing (s .on)) k p) → ⊥
+StepOf t s k p true next = Stepped t s k p next
+
+-- nothing is placed
+pub record Started (t : Table) (r : State) : Type 0 where
+  pub fits : Fits t r
+  pub nothing : (k p : ℕ) → T (standing (r .on) k p) → ⊥
+
+-- the bytes q name for each task the processor on which it stands
+pub record Names (t : Table) (sets q : List ℕ) : Type 0 where
+  pub long : length q ≡ 24
+  pub known : (k : ℕ) → k < t .tasks .count → getD q k 0 < t .processors .count
+  pub there : (k : ℕ) → k < t .tasks .count → T (standing sets k (getD q k 0))

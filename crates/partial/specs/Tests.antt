@@ -1,0 +1,66 @@
+-- What the code tests before it puts task k on processor p, from the lent columns and masks alone.
+use mathlib.Core.Bool.{Bool, true, false, not, _&&_, _||_}
+use mathlib.Core.List.{List}
+use mathlib.Core.Path.{_≡_}
+use Prim.Native.Nat.{ℕ, _+_, _-_, _≤_, _<_}
+use lib.Dec.{eqb, leb}
+use lib.ListN.{getD, set}
+use Rattle.finite.specs.Finite.{only, sumTo, someBelow, firstBelow}
+use Rattle.mask.specs.Mask.{has, insertOf, removeOf, maskOf}
+use Rattle.table.specs.declared.Table.{Table}
+use Rattle.rules.specs.Placement.{andTask}
+use Rattle.rules.specs.Rules.{Keeps, traffic}
+use Rattle.rules.specs.Sets.{standing, meets}
+use Rattle.partial.specs.declared.State.{State}
+
+-- the tasks below n that are in neither set
+unfoldable pub neither : ℕ → ℕ → ℕ → ℕ
+neither n a b = maskOf n (λ j. not (has b j || has a j))
+
+-- the task's processor, its memory and its load fit what p has left, and no task on p is excluded from it
+unfoldable pub suits : List ℕ → List ℕ → List ℕ → List ℕ → State → ℕ → ℕ → Bool
+suits residence memory exclusions loads s k p =
+    (has (getD residence k 0) p && leb (getD memory k 0) (getD (s .memory) p 0))
+    && (leb (getD loads k 0) (getD (s .load) p 0) && not (meets (getD exclusions k 0) (getD (s .on) p 0)))
+
+-- a co-residence group of task k has one of the others
+unfoldable pub parted : List ℕ → ℕ → ℕ → ℕ → Bool
+parted co groups k others = someBelow groups (λ g. has (getD co g 0) k && meets (getD co g 0) others)
+
+-- a message goes between task k and one of the others
+abbrev pub joins : ℕ → ℕ → ℕ → ℕ → Bool
+joins k others from to = (eqb from k && has others to) || (eqb to k && has others from)
+
+-- what such messages amount to
+unfoldable pub between : List ℕ → List ℕ → List ℕ → ℕ → ℕ → ℕ → ℕ
+between sender receiver amounts messages k others = sumTo messages (λ j. only (joins k others (getD sender j 0) (getD receiver j 0)) (getD amounts j 0))
+
+-- messages between tasks, small enough that their sum fits
+pub record SmallMessages (sender receiver amounts : List ℕ) (messages : ℕ) : Type 0 where
+  pub few : messages ≤ 64
+  pub from-task : (j : ℕ) → j < messages → getD sender j 0 < 32
+  pub to-task : (j : ℕ) → j < messages → getD receiver j 0 < 32
+  pub small : (j : ℕ) → j < messages → getD amounts j 0 ≤ 1000000000000000
+
+-- the rules would be broken with task k on p, or they are kept and it adds so much to the network
+pub record Tried (t : Table) (s : State) (k p added : ℕ) : Type 0 where
+  pub keeps : Keeps t (andTask (standing (s .on)) k p)
+  pub traffic : traffic t (andTask (standing (s .on)) k p) ≡ traffic t (standing (s .on)) + added
+
+abbrev pub TrialOf : Table → State → ℕ → ℕ → Bool → ℕ → Type 0
+TrialOf t s k p false added = Keeps t (andTask (standing (s .on)) k p) → ⊥
+TrialOf t s k p true added = Tried t s k p added
+
+-- the state with task k on p, where it takes so much memory and load, and so much of the network
+abbrev pub withTask : State → ℕ → ℕ → ℕ → ℕ → ℕ → State
+withTask s k p memory load added = record {
+  on = set (s .on) p (insertOf (getD (s .on) p 0) k);
+  left = removeOf (s .left) k;
+  memory = set (s .memory) p (getD (s .memory) p 0 - memory);
+  load = set (s .load) p (getD (s .load) p 0 - load);
+  traffic = s .traffic - added;
+}
+
+-- the processor of task k, the lowest that has it
+abbrev pub processorOf : List ℕ → ℕ → ℕ → ℕ
+processorOf sets m k = firstBelow m (standing sets k)

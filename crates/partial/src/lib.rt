@@ -1,0 +1,342 @@
+// A partial placement: which rules one task more on a processor would break, and the state with it there.
+ghost use mathlib.Core.Path.{_≡_};
+ghost use Prim.Native.Nat.{_<_, _≤_};
+ghost use lib.Dec.{T};
+ghost use lib.ListN.{getD};
+ghost use mathlib.Core.Bool.{true};
+ghost use Rattle.mask.specs.Mask.{has, maskOf};
+ghost use Rattle.table.specs.declared.Table.{Table};
+ghost use Rattle.table.specs.Sound.{Sound};
+ghost use Rattle.schedule.specs.Arrays.{Says};
+ghost use Rattle.rules.specs.Placement.{andTask};
+ghost use Rattle.rules.specs.Rules.{Keeps};
+ghost use Rattle.rules.specs.Sets.{standing};
+ghost use Rattle.partial.specs.Partial.{Lent, Whole, Fits, StepOf, Started, Names};
+ghost use Rattle.partial.specs.Tests.{neither, suits, parted, joins, between, SmallMessages, TrialOf, withTask, processorOf};
+use table::Table;
+
+// How many there are of each.
+pub struct Sizes {
+    pub tasks: usize,
+    pub processors: usize,
+    pub groups: usize,
+    pub messages: usize,
+}
+
+// The tasks on each processor, the open tasks, and what is left of each processor's memory and load and of the network.
+pub struct State {
+    pub on: [u32; 8],
+    pub left: u32,
+    pub memory: [u64; 8],
+    pub load: [u64; 8],
+    pub traffic: u64,
+}
+
+// x as a wider number.
+fn wide(x: u32) -> u64
+    ensures { λ r. ⌜ (r ≡ x) × (r < 4294967296) ⌝ }
+{
+    x as u64
+}
+
+// The first n tasks.
+fn first_tasks(n: usize) -> u32
+    requires { ⌜ n ≤ 24 ⌝ }
+    ensures { λ r. ⌜ r ≡ maskOf n (λ j. true) ⌝ }
+{
+    (1 << n) - 1
+}
+
+// The tasks below n that are in neither set.
+fn neither(n: usize, a: u32, b: u32) -> u32
+    requires { ⌜ n ≤ 24 ⌝ }
+    ensures { λ r. ⌜ r ≡ neither n a b ⌝ }
+{
+    first_tasks(n) & !(a | b)
+}
+
+// Whether processor p is one of task k's, has its memory and load left, and has no task that may not stand beside it.
+fn suits<'a>(
+    residence: &'a [u32; 24],
+    memory: &'a [u32; 24],
+    exclusions: &'a [u32; 24],
+    loads: &'a [u64; 24],
+    s: State,
+    k: usize,
+    p: usize,
+) -> bool
+    requires { ⌜ (k < 24) × (p < 8) ⌝ }
+    ensures { λ r. ⌜ r ≡ suits (now (residence .entry)) (now (memory .entry)) (now (exclusions .entry)) (now (loads .entry)) s k p ⌝ }
+{
+    if !mask::has(residence[k], p) {
+        return false;
+    }
+    if s.memory[p] < wide(memory[k]) {
+        return false;
+    }
+    if s.load[p] < loads[k] {
+        return false;
+    }
+    exclusions[k] & s.on[p] == 0
+}
+
+// Whether a co-residence group of task k has one of the others.
+fn parted(co: &[u32; 16], groups: usize, k: usize, others: u32) -> bool
+    requires { ⌜ (groups ≤ 16) × (k < 32) ⌝ }
+    ensures { λ r. ⌜ r ≡ parted (now (co .entry)) groups k others ⌝ }
+{
+    let mut g: usize = 0;
+    while g < groups {
+        if mask::has(co[g], k) {
+            if co[g] & others != 0 {
+                return true;
+            }
+        }
+        g += 1;
+    }
+    false
+}
+
+// Whether a message goes between task k and one of the others.
+fn joins(k: usize, others: u32, from: u32, to: u32) -> bool
+    requires { ⌜ (from < 32) × (to < 32) ⌝ }
+    ensures { λ r. ⌜ r ≡ joins k others from to ⌝ }
+{
+    if from as usize == k {
+        if mask::has(others, to as usize) {
+            return true;
+        }
+    }
+    if to as usize == k {
+        return mask::has(others, from as usize);
+    }
+    false
+}
+
+// What the messages between task k and the others amount to.
+fn between<'a>(
+    sender: &'a [u32; 64],
+    receiver: &'a [u32; 64],
+    amounts: &'a [u64; 64],
+    messages: usize,
+    k: usize,
+    others: u32,
+) -> u64
+    requires { ⌜ SmallMessages (now sender) (now receiver) (now amounts) messages ⌝ }
+    ensures { λ r. ⌜ r ≡ between (now (sender .entry)) (now (receiver .entry)) (now (amounts .entry)) messages k others ⌝ }
+{
+    let mut sum: u64 = 0;
+    let mut j: usize = 0;
+    while j < messages {
+        if joins(k, others, sender[j], receiver[j]) {
+            sum += amounts[j];
+        }
+        j += 1;
+    }
+    sum
+}
+
+// Whether the rules allow the task, and what it then adds to the network.
+struct Trial {
+    allowed: bool,
+    added: u64,
+}
+
+const REFUSED: Trial = Trial {
+    allowed: false,
+    added: 0,
+};
+
+// The open task k on processor p: the cheap tests first.
+fn attempt<'a>(
+    residence: &'a [u32; 24],
+    memory: &'a [u32; 24],
+    exclusions: &'a [u32; 24],
+    co: &'a [u32; 16],
+    sender: &'a [u32; 64],
+    receiver: &'a [u32; 64],
+    loads: &'a [u64; 24],
+    amounts: &'a [u64; 64],
+    sizes: Sizes,
+    s: State,
+    k: usize,
+    p: usize,
+) -> Trial
+    requires { ⌜ ((t : Table) × Lent t sizes (now residence) (now memory) (now exclusions) (now co) (now sender) (now receiver) (now loads) (now amounts) × Fits t s)
+        × T (has (s .left) k) × (p < sizes .processors) ⌝ }
+    ensures { λ r. ⌜ ((t : Table) → Lent t sizes (now (residence .entry)) (now (memory .entry)) (now (exclusions .entry)) (now (co .entry)) (now (sender .entry)) (now (receiver .entry)) (now (loads .entry)) (now (amounts .entry))
+        → Fits t s → TrialOf t s k p (r .allowed) (r .added)) ⌝ }
+{
+    if !suits(residence, memory, exclusions, loads, s, k, p) {
+        return REFUSED;
+    }
+    let others = neither(sizes.tasks, s.left, s.on[p]);
+    if parted(co, sizes.groups, k, others) {
+        return REFUSED;
+    }
+    let added = between(sender, receiver, amounts, sizes.messages, k, others);
+    Trial {
+        allowed: added <= s.traffic,
+        added,
+    }
+}
+
+// Whether the open task k on processor p keeps the rules.
+pub fn allows<'a>(
+    residence: &'a [u32; 24],
+    memory: &'a [u32; 24],
+    exclusions: &'a [u32; 24],
+    co: &'a [u32; 16],
+    sender: &'a [u32; 64],
+    receiver: &'a [u32; 64],
+    loads: &'a [u64; 24],
+    amounts: &'a [u64; 64],
+    sizes: Sizes,
+    s: State,
+    k: usize,
+    p: usize,
+) -> bool
+    requires { ⌜ ((t : Table) × Lent t sizes (now residence) (now memory) (now exclusions) (now co) (now sender) (now receiver) (now loads) (now amounts) × Fits t s)
+        × T (has (s .left) k) × (p < sizes .processors) ⌝ }
+    ensures { λ r. ⌜ ((t : Table) → Lent t sizes (now (residence .entry)) (now (memory .entry)) (now (exclusions .entry)) (now (co .entry)) (now (sender .entry)) (now (receiver .entry)) (now (loads .entry)) (now (amounts .entry))
+        → Fits t s → Says r (Keeps t (andTask (standing (s .on)) k p))) ⌝ }
+{
+    let trial = attempt(
+        residence,
+        memory,
+        exclusions,
+        co,
+        sender,
+        receiver,
+        loads,
+        amounts,
+        sizes,
+        s,
+        k,
+        p,
+    );
+    trial.allowed
+}
+
+// The state with task k on processor p, where it takes so much memory and load, and so much of the network.
+fn with_task(s: State, k: usize, p: usize, memory: u32, load: u64, added: u64) -> State
+    requires { ⌜ (k < 32) × (p < 8) × (memory ≤ getD (s .memory) p 0) × (load ≤ getD (s .load) p 0) × (added ≤ s .traffic) ⌝ }
+    ensures { λ r. ⌜ r ≡ withTask s k p memory load added ⌝ }
+{
+    let mut next = s;
+    next.on[p] = mask::insert(s.on[p], k);
+    next.left = mask::remove(s.left, k);
+    next.memory[p] = s.memory[p] - wide(memory);
+    next.load[p] = s.load[p] - load;
+    next.traffic = s.traffic - added;
+    next
+}
+
+// Whether the rules allow the task, and the state with it; the state as it was where they do not.
+pub struct Stepping {
+    pub allowed: bool,
+    pub next: State,
+}
+
+// The open task k put on processor p.
+pub fn step<'a>(
+    residence: &'a [u32; 24],
+    memory: &'a [u32; 24],
+    exclusions: &'a [u32; 24],
+    co: &'a [u32; 16],
+    sender: &'a [u32; 64],
+    receiver: &'a [u32; 64],
+    loads: &'a [u64; 24],
+    amounts: &'a [u64; 64],
+    sizes: Sizes,
+    s: State,
+    k: usize,
+    p: usize,
+) -> Stepping
+    requires { ⌜ ((t : Table) × Lent t sizes (now residence) (now memory) (now exclusions) (now co) (now sender) (now receiver) (now loads) (now amounts) × Fits t s)
+        × T (has (s .left) k) × (p < sizes .processors) ⌝ }
+    ensures { λ r. ⌜ ((t : Table) → Lent t sizes (now (residence .entry)) (now (memory .entry)) (now (exclusions .entry)) (now (co .entry)) (now (sender .entry)) (now (receiver .entry)) (now (loads .entry)) (now (amounts .entry))
+        → Fits t s → StepOf t s k p (r .allowed) (r .next)) ⌝ }
+{
+    let trial = attempt(
+        residence,
+        memory,
+        exclusions,
+        co,
+        sender,
+        receiver,
+        loads,
+        amounts,
+        sizes,
+        s,
+        k,
+        p,
+    );
+    if !trial.allowed {
+        return Stepping {
+            allowed: false,
+            next: s,
+        };
+    }
+    Stepping {
+        allowed: true,
+        next: with_task(s, k, p, memory[k], loads[k], trial.added),
+    }
+}
+
+// Nothing is placed yet.
+pub fn start(t: Table) -> State
+    requires { ⌜ Sound t ⌝ }
+    ensures { λ r. ⌜ Started t r ⌝ }
+{
+    let processors = t.processors;
+    let tasks = t.tasks;
+    let m = processors.count;
+    let h = t.hyperperiod;
+    let mut memory = [0u64; 8];
+    let mut load = [0u64; 8];
+    let mut p: usize = 0;
+    while p < m {
+        memory[p] = wide(processors.memory[p]);
+        load[p] = wide(processors.limit[p]) * h / 1000;
+        p += 1;
+    }
+    State {
+        on: [0; 8],
+        left: first_tasks(tasks.count),
+        memory,
+        load,
+        traffic: wide(t.capacity) * h,
+    }
+}
+
+// The lowest of the m processors that has task k.
+fn processor_of(sets: [u32; 8], m: usize, k: usize) -> u8
+    requires { ⌜ (m ≤ 8) × (k < 32) ⌝ }
+    ensures { λ r. ⌜ r ≡ processorOf sets m k ⌝ }
+{
+    let mut p: usize = 0;
+    while p < m {
+        if mask::has(sets[p], k) {
+            return p as u8;
+        }
+        p += 1;
+    }
+    m as u8
+}
+
+// The processor of each task of a whole placement, 0 beyond the tasks.
+pub fn placement_of(sizes: Sizes, sets: [u32; 8]) -> [u8; 24]
+    requires { ⌜ ((t : Table) × (sizes .tasks ≡ t .tasks .count) × (sizes .processors ≡ t .processors .count) × Sound t × Whole t sets) ⌝ }
+    ensures { λ r. ⌜ ((t : Table) → sizes .tasks ≡ t .tasks .count → sizes .processors ≡ t .processors .count → Whole t sets → Names t sets r) ⌝ }
+{
+    let n = sizes.tasks;
+    let m = sizes.processors;
+    let mut bytes = [0u8; 24];
+    let mut k: usize = 0;
+    while k < n {
+        bytes[k] = processor_of(sets, m, k);
+        k += 1;
+    }
+    bytes
+}

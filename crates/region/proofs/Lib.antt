@@ -1,0 +1,4 @@
+pub mod Filling
+pub mod Refuting
+pub mod Settling
+pub mod Lending

@@ -1,0 +1,1 @@
+// What the search knows of a region of placements: definitions and laws, no function.

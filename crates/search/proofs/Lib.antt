@@ -1,0 +1,4 @@
+pub mod Answering
+pub mod Running
+pub mod Writing
+pub mod Refusal
