@@ -1,0 +1,60 @@
+-- A list of different sets of n tasks is short: so the count of bytes of an answer is below 2 ^ 32. Assumes nothing.
+use mathlib.Core.Path.{_≡_, sym, ap, _∙_}
+use mathlib.Core.Bool.{Bool, cond}
+use mathlib.Core.List.{List}
+use Prim.Native.Nat.{ℕ, zero, suc, _+_, _*_, _^_, _≤_, _<_}
+use native.Mathlib.Omega.{arith}
+use native.Mathlib.Decide.{ℕ-discrete}
+use borrow.Author.Tests.{eq-eqb, ne-eqb}
+use lib.Dec.{eqb, ltb, ltb→lt}
+use lib.ListN.{length, getD}
+use Rattle.mask.proofs.Tests.{and-left}
+use Rattle.mask.proofs.Laws.{has-below}
+use Rattle.table.specs.declared.Table.{Table}
+use Rattle.table.specs.Sound.{Sound}
+use Rattle.answer.specs.Answer.{countOf}
+use Rattle.goal.specs.Goal.{Listed}
+use Rattle.goal.proofs.Theorems.{listed-is-met}
+
+-- n different numbers below m are no more than m
+different-few : (n m : ℕ) (f : ℕ → ℕ) → ((j : ℕ) → j < n → f j < m) → ((i j : ℕ) → i < n → j < n → f i ≡ f j → i ≡ j) → n ≤ m
+different-few zero m f small different = omega arith
+different-few (suc n) zero f small different = absurd (omega (arith, small n (omega arith)))
+different-few (suc n) (suc m) f small different =
+    omega (arith, different-few n m g (λ j l. less j l (ℕ-discrete (f j) m)) (λ i j a b e. apart i j a b (ℕ-discrete (f i) m) (ℕ-discrete (f j) m) e))
+  where
+    -- the largest number is given up for the last one
+    g : ℕ → ℕ
+    g j = cond (eqb (f j) m) (f n) (f j)
+
+    top : (j : ℕ) → f j ≡ m → g j ≡ f n
+    top j e = ap (λ (b : Bool). cond b (f n) (f j)) (eq-eqb (f j) m e)
+
+    other : (j : ℕ) → (f j ≡ m → ⊥) → g j ≡ f j
+    other j e = ap (λ (b : Bool). cond b (f n) (f j)) (ne-eqb (f j) m e)
+
+    last : (j : ℕ) → j < n → f j ≡ f n → ⊥
+    last j l e = omega (arith, different j n (omega arith) (omega arith) e)
+
+    less : (j : ℕ) → j < n → Dec (f j ≡ m) → g j < m
+    less j l (yes e) = let h : f n ≡ m → ⊥ = λ q. last j l (e ∙ sym q) in rw (top j e) (omega (arith, small n (omega arith), h))
+    less j l (no e) = rw (other j e) (omega (arith, small j (omega arith), e))
+
+    apart : (i j : ℕ) → i < n → j < n → Dec (f i ≡ m) → Dec (f j ≡ m) → g i ≡ g j → i ≡ j
+    apart i j a b (yes e) (yes h) q = different i j (omega arith) (omega arith) (e ∙ sym h)
+    apart i j a b (yes e) (no h) q = absurd (last j b (sym (other j h) ∙ sym q ∙ top i e))
+    apart i j a b (no e) (yes h) q = absurd (last i a (sym (other i e) ∙ q ∙ top j h))
+    apart i j a b (no e) (no h) q = different i j (omega arith) (omega arith) (sym (other i e) ∙ q ∙ other j h)
+
+pub listed-few : {t : Table} → Sound t → {cs : List ℕ} → Listed t cs → length cs ≤ 2 ^ 24
+listed-few {t} h {cs} w = different-few (length cs) (2 ^ 24) (λ j. getD cs j 0) small (w .different)
+  where
+    small : (j : ℕ) → j < length cs → getD cs j 0 < 2 ^ 24
+    small j l =
+        let m = listed-is-met h w j l in
+        ltb→lt (getD cs j 0) (2 ^ 24)
+        (has-below 24 (getD cs j 0) (λ k u. omega (arith, ltb→lt k (length (m .0)) (and-left (ltb k (length (m .0))) (eqb (getD (m .0) k 0) (m .1)) (m .6 k u)), m .2 .long, h .tasks .most)))
+
+-- the count of bytes of an answer
+pub count-small : {t : Table} → Sound t → {cs : List ℕ} → Listed t cs → countOf (t .tasks .count) (length cs) < 2 ^ 32
+count-small {t} h {cs} w = omega (arith, listed-few h w, h .tasks .most)
