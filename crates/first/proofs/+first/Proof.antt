@@ -35,188 +35,6 @@ first-Inv-loop work period deadline priority higher residence memory exclusions 
 abbrev first-μ-loop : first-lts.MeasureT-loop
 first-μ-loop work period deadline priority higher residence memory exclusions co sender receiver loads amounts sizes s k witness list₀ places count cut on at₀ marked₀ p₀ list at marked p = sizes .processors - p
 
--- src/lib.rt:122:9
-first-returns : (t : ℕ) → first-lts.Need-returns (
-  try-processor-reads.Asked,
-  try-processor-reads.Learnt,
-  step-reads.Asked,
-  step-reads.Learnt,
-  first-below t,
-  first.Post,
-) (first-at t) first.Post first-Inv-loop first-μ-loop
-first-returns t c = λ u l w. first-whole w (l .rules .sound) (omega (arith, l .rules .tasks, c .if1 .taken)) (c .before .before .before .before .args .cut)
-
--- src/lib.rt:127:5
-first-loop-holds : (t : ℕ) → first-lts.Need-loop-holds (
-  try-processor-reads.Asked,
-  try-processor-reads.Learnt,
-  step-reads.Asked,
-  step-reads.Learnt,
-  first-below t,
-  first.Post,
-) (first-at t) first.Post first-Inv-loop first-μ-loop
-first-loop-holds t c = (omega arith, refl, λ u l w. passing-start w (c .before .before .before .before .args .cut))
-
--- src/lib.rt:128:13
-first-try-processor-requires : (t : ℕ) → first-lts.Need-try-processor-requires (
-  try-processor-reads.Asked,
-  try-processor-reads.Learnt,
-  step-reads.Asked,
-  step-reads.Learnt,
-  first-below t,
-  first.Post,
-) (first-at t) first.Post first-Inv-loop first-μ-loop
-first-try-processor-requires t c κs =
-    let i = c .before .before .before in
-    let a = i .before .before .before .before .before .pre .1 in
-    ((a .0, a .1, passing-placing (a .2) (i .loop .inv .2 (a .0) (a .1) (a .2))), omega (arith, a .2 .upto, a .1 .rules .tasks, i .before .if1 .left), c .before .if2 .taken)
-
--- src/lib.rt:132:17
-first-step-requires : (t : ℕ) → first-lts.Need-step-requires (
-  try-processor-reads.Asked,
-  try-processor-reads.Learnt,
-  step-reads.Asked,
-  step-reads.Learnt,
-  first-below t,
-  first.Post,
-) (first-at t) first.Post first-Inv-loop first-μ-loop
-first-step-requires t c κs =
-    let i = c .before .before .before .before .before .before .before in
-    let a = i .before .before .before .before .before .pre .1 in
-    ((a .0, a .1 .rules, a .2 .fits), a .2 .open-from _ (omega arith) (omega (arith, a .2 .upto, a .1 .rules .tasks, i .before .if1 .left)), c .before .before .before .before .before .if2 .taken)
-
--- src/lib.rt:135:150
-first-add-first : (t : ℕ) → first-lts.Need-add-first (
-  try-processor-reads.Asked,
-  try-processor-reads.Learnt,
-  step-reads.Asked,
-  step-reads.Learnt,
-  first-below t,
-  first.Post,
-) (first-at t) first.Post first-Inv-loop first-μ-loop
-first-add-first t c = let a = c .before .before .before .before .before .before .before .before .before .before .before .before .before .before .before .pre .1 in omega (arith, a .2 .upto, a .1 .rules .sound .tasks .most)
-
--- src/lib.rt:135:13
-first-first-requires : (t : ℕ) → first-lts.Need-first-requires (
-  try-processor-reads.Asked,
-  try-processor-reads.Learnt,
-  step-reads.Asked,
-  step-reads.Learnt,
-  first-below t,
-  first.Post,
-) (first-at t) first.Post first-Inv-loop first-μ-loop
-first-first-requires t c κs =
-    let x = c .before .before .before .before .before .before .before in
-    let i = x .before .before .before .before in
-    let a = i .before .before .before .before .before .pre in
-    let u = a .1 .0 in
-    let l = a .1 .1 in
-    let w = a .1 .2 in
-    let v = i .loop .inv .2 u l w in
-    let y = x .try-processor .ensures u l (passing-placing w v) in
-    let e = c .before .before .before .before .if3 .taken in
-    let below : i .before .before .before .before .before .args .k < u .tasks .count = omega (arith, w .upto, l .rules .tasks, i .before .if1 .left) in
-    let good = taken-good w v _ (x .try-processor .result) y e in
-    let step = step-taken (l .rules .sound) w (i .loop .p) good (c .before .before .before .step .result .allowed) (c .before .before .before .step .ensures u (l .rules) (w .fits)) in
-    (omega (arith, a .0, below, l .rules .tasks), (u, l, placing-next (l .rules .sound) w below (taken-ledger w v _ (x .try-processor .result) y e) good step))
-
--- src/lib.rt:135:13
-first-same-length : (t : ℕ) → first-lts.Need-same-length (
-  try-processor-reads.Asked,
-  try-processor-reads.Learnt,
-  step-reads.Asked,
-  step-reads.Learnt,
-  first-below t,
-  first.Post,
-) (first-at t) first.Post first-Inv-loop first-μ-loop
-first-same-length t c = search needs
-
--- src/lib.rt:135:13
-first-returns-2 : (t : ℕ) → first-lts.Need-returns-2 (
-  try-processor-reads.Asked,
-  try-processor-reads.Learnt,
-  step-reads.Asked,
-  step-reads.Learnt,
-  first-below t,
-  first.Post,
-) (first-at t) first.Post first-Inv-loop first-μ-loop
-first-returns-2 t c = λ u l w.
-    let f = c .before .before in
-    let x = f .before .before .before .before .before .before .before .before in
-    let i = x .before .before .before .before in
-    let v = i .loop .inv .2 u l w in
-    let y = x .try-processor .ensures u l (passing-placing w v) in
-    let e = f .before .before .before .before .before .if3 .taken in
-    let below : i .before .before .before .before .before .args .k < u .tasks .count = omega (arith, w .upto, l .rules .tasks, i .before .if1 .left) in
-    let good = taken-good w v _ (x .try-processor .result) y e in
-    let step = step-taken (l .rules .sound) w (i .loop .p) good (f .before .before .before .before .step .result .allowed) (f .before .before .before .before .step .ensures u (l .rules) (w .fits)) in
-    first-taken w v _ (x .try-processor .result) y e below step (f .first .result)
-    (f .first .ensures u l (placing-next (l .rules .sound) w below (taken-ledger w v _ (x .try-processor .result) y e) good step))
-
--- src/lib.rt:137:9
-first-add-p : (t : ℕ) → first-lts.Need-add-p (
-  try-processor-reads.Asked,
-  try-processor-reads.Learnt,
-  step-reads.Asked,
-  step-reads.Learnt,
-  first-below t,
-  first.Post,
-) (first-at t) first.Post first-Inv-loop first-μ-loop
-first-add-p t c = search needs
-
--- src/lib.rt:127:5
-first-loop-less : (t : ℕ) → first-lts.Need-loop-less (
-  try-processor-reads.Asked,
-  try-processor-reads.Learnt,
-  step-reads.Asked,
-  step-reads.Learnt,
-  first-below t,
-  first.Post,
-) (first-at t) first.Post first-Inv-loop first-μ-loop
-first-loop-less t c = omega arith
-
--- src/lib.rt:127:5
-first-loop-again : (t : ℕ) → first-lts.Need-loop-again (
-  try-processor-reads.Asked,
-  try-processor-reads.Learnt,
-  step-reads.Asked,
-  step-reads.Learnt,
-  first-below t,
-  first.Post,
-) (first-at t) first.Post first-Inv-loop first-μ-loop
-first-loop-again t c =
-    let x = c .before .before .before in
-    let i = x .before .before .before .before in (
-      omega arith,
-      x .try-processor .kept .1 .1 .1 .1 .1 .1 .1 .1 .1 .1 .1 .1 .1 .1 .1 .1 .1 .1 .0 ∙ i .loop .inv .1,
-      λ u l w. let v = i .loop .inv .2 u l w in
-          passing-next w v _ (x .try-processor .result) (x .try-processor .ensures u l (passing-placing w v)) (omega (arith, w .upto, l .rules .tasks, i .before .if1 .left)) (c .if3 .left),
-    )
-
--- src/lib.rt:93:1
-first-same-length-2 : (t : ℕ) → first-lts.Need-same-length-2 (
-  try-processor-reads.Asked,
-  try-processor-reads.Learnt,
-  step-reads.Asked,
-  step-reads.Learnt,
-  first-below t,
-  first.Post,
-) (first-at t) first.Post first-Inv-loop first-μ-loop
-first-same-length-2 t c = search needs
-
--- src/lib.rt:93:1
-first-returns-3 : (t : ℕ) → first-lts.Need-returns-3 (
-  try-processor-reads.Asked,
-  try-processor-reads.Learnt,
-  step-reads.Asked,
-  step-reads.Learnt,
-  first-below t,
-  first.Post,
-) (first-at t) first.Post first-Inv-loop first-μ-loop
-first-returns-3 t c = λ u l w.
-    let i = c .before .before in
-    absurd (not-missed w (i .loop .inv .2 u l w) (omega (arith, w .upto, l .rules .tasks, i .before .if1 .left)) (omega (arith, l .rules .processors, c .if2 .left)))
-
 pub +first-spec : {M : Type 1} → statement M
 +first-spec = close μ-first λ t. first-lts.spec (
   try-processor-reads.Asked,
@@ -230,16 +48,55 @@ pub +first-spec : {M : Type 1} → statement M
     first.Post
     first-Inv-loop
     first-μ-loop
-    (first-returns t)
-    (first-loop-holds t)
-    (first-try-processor-requires t)
-    (first-step-requires t)
-    (first-add-first t)
-    (first-first-requires t)
-    (first-same-length t)
-    (first-returns-2 t)
-    (first-add-p t)
-    (first-loop-less t)
-    (first-loop-again t)
-    (first-same-length-2 t)
-    (first-returns-3 t)
+    (λ c u l w. first-whole w (l .rules .sound) (omega (arith, l .rules .tasks, c .if1 .taken)) (c .before .before .before .before .args .cut))  -- returns
+    (λ c. (omega arith, refl, λ u l w. passing-start w (c .before .before .before .before .args .cut)))  -- loop-holds
+    (λ c κs.
+    let i = c .before .before .before in
+    let a = i .before .before .before .before .before .pre .1 in
+    ((a .0, a .1, passing-placing (a .2) (i .loop .inv .2 (a .0) (a .1) (a .2))), omega (arith, a .2 .upto, a .1 .rules .tasks, i .before .if1 .left), c .before .if2 .taken))  -- try-processor-requires
+    (λ c κs.
+    let i = c .before .before .before .before .before .before .before in
+    let a = i .before .before .before .before .before .pre .1 in
+    ((a .0, a .1 .rules, a .2 .fits), a .2 .open-from _ (omega arith) (omega (arith, a .2 .upto, a .1 .rules .tasks, i .before .if1 .left)), c .before .before .before .before .before .if2 .taken))  -- step-requires
+    (λ c. let a = c .before .before .before .before .before .before .before .before .before .before .before .before .before .before .before .pre .1 in omega (arith, a .2 .upto, a .1 .rules .sound .tasks .most))  -- add-first
+    (λ c κs.
+    let x = c .before .before .before .before .before .before .before in
+    let i = x .before .before .before .before in
+    let a = i .before .before .before .before .before .pre in
+    let u = a .1 .0 in
+    let l = a .1 .1 in
+    let w = a .1 .2 in
+    let v = i .loop .inv .2 u l w in
+    let y = x .try-processor .ensures u l (passing-placing w v) in
+    let e = c .before .before .before .before .if3 .taken in
+    let below : i .before .before .before .before .before .args .k < u .tasks .count = omega (arith, w .upto, l .rules .tasks, i .before .if1 .left) in
+    let good = taken-good w v _ (x .try-processor .result) y e in
+    let step = step-taken (l .rules .sound) w (i .loop .p) good (c .before .before .before .step .result .allowed) (c .before .before .before .step .ensures u (l .rules) (w .fits)) in
+    (omega (arith, a .0, below, l .rules .tasks), (u, l, placing-next (l .rules .sound) w below (taken-ledger w v _ (x .try-processor .result) y e) good step)))  -- first-requires
+    (λ c. search needs)  -- same-length
+    (λ c u l w.
+    let f = c .before .before in
+    let x = f .before .before .before .before .before .before .before .before in
+    let i = x .before .before .before .before in
+    let v = i .loop .inv .2 u l w in
+    let y = x .try-processor .ensures u l (passing-placing w v) in
+    let e = f .before .before .before .before .before .if3 .taken in
+    let below : i .before .before .before .before .before .args .k < u .tasks .count = omega (arith, w .upto, l .rules .tasks, i .before .if1 .left) in
+    let good = taken-good w v _ (x .try-processor .result) y e in
+    let step = step-taken (l .rules .sound) w (i .loop .p) good (f .before .before .before .before .step .result .allowed) (f .before .before .before .before .step .ensures u (l .rules) (w .fits)) in
+    first-taken w v _ (x .try-processor .result) y e below step (f .first .result)
+    (f .first .ensures u l (placing-next (l .rules .sound) w below (taken-ledger w v _ (x .try-processor .result) y e) good step)))  -- returns-2
+    (λ c. search needs)  -- add-p
+    (λ c. omega arith)  -- loop-less
+    (λ c.
+    let x = c .before .before .before in
+    let i = x .before .before .before .before in (
+      omega arith,
+      x .try-processor .kept .1 .1 .1 .1 .1 .1 .1 .1 .1 .1 .1 .1 .1 .1 .1 .1 .1 .1 .0 ∙ i .loop .inv .1,
+      λ u l w. let v = i .loop .inv .2 u l w in
+          passing-next w v _ (x .try-processor .result) (x .try-processor .ensures u l (passing-placing w v)) (omega (arith, w .upto, l .rules .tasks, i .before .if1 .left)) (c .if3 .left),
+    ))  -- loop-again
+    (λ c. search needs)  -- same-length-2
+    (λ c u l w.
+    let i = c .before .before in
+    absurd (not-missed w (i .loop .inv .2 u l w) (omega (arith, w .upto, l .rules .tasks, i .before .if1 .left)) (omega (arith, l .rules .processors, c .if2 .left))))  -- returns-3

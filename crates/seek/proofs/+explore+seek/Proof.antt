@@ -41,72 +41,6 @@ seek-at t = and 2 seek-kinds.ps (is 2 seek-kinds.ps μ-seek t) seek.Pre
 abbrev seek-below : ℕ → In 2 seek-kinds.ps
 seek-below t = and 2 seek-kinds.ps (falls 2 seek-kinds.ps _<_ μ-seek t) seek.Pre
 
--- src/lib.rt:161:9
-explore-enter-requires : (t : ℕ) → explore-lts.Need-enter-requires (
-  enter-reads.Asked,
-  enter-reads.Learnt,
-  seek-below t,
-  seek.Post,
-) (explore-at t) explore.Post
-explore-enter-requires t c κs = c .before .before .pre .1
-
--- src/lib.rt:186:9
-explore-same-length : (t : ℕ) → explore-lts.Need-same-length (
-  enter-reads.Asked,
-  enter-reads.Learnt,
-  seek-below t,
-  seek.Post,
-) (explore-at t) explore.Post
-explore-same-length t c = search needs
-
--- src/lib.rt:186:9
-explore-returns : (t : ℕ) → explore-lts.Need-returns (
-  enter-reads.Asked,
-  enter-reads.Learnt,
-  seek-below t,
-  seek.Post,
-) (explore-at t) explore.Post
-explore-returns t c = λ u l b.
-    let w = c .before .before .before .before .before in
-    explored-closed (w .enter .result) (w .enter .ensures u l b) (not-true (w .enter .result .passes) (c .before .if1 .taken)) _
-
--- src/lib.rt:193:5
-explore-seek-requires : (t : ℕ) → explore-lts.Need-seek-requires (
-  enter-reads.Asked,
-  enter-reads.Learnt,
-  seek-below t,
-  seek.Post,
-) (explore-at t) explore.Post
-explore-seek-requires t c κs =
-    let w = c .before .before .before .before .before .before in
-    let a = w .before .before .before .pre in
-    let e = w .enter .ensures (a .1 .0 .0) (a .1 .0 .1) (a .1 .0 .2) in
-    let f = not-false (w .enter .result .passes) (c .before .before .if1 .left) in
-    (omega (arith, a .0, explored-falls (w .enter .result) e f (a .1 .1)), (a .1 .0 .0, a .1 .0 .1, explored-begins (w .enter .result) e f))
-
--- src/lib.rt:134:1
-explore-same-length-2 : (t : ℕ) → explore-lts.Need-same-length-2 (
-  enter-reads.Asked,
-  enter-reads.Learnt,
-  seek-below t,
-  seek.Post,
-) (explore-at t) explore.Post
-explore-same-length-2 t c = search needs
-
--- src/lib.rt:134:1
-explore-returns-2 : (t : ℕ) → explore-lts.Need-returns-2 (
-  enter-reads.Asked,
-  enter-reads.Learnt,
-  seek-below t,
-  seek.Post,
-) (explore-at t) explore.Post
-explore-returns-2 t c = λ u l b.
-    let v = c .before .before in
-    let w = v .before .before .before .before .before .before .before in
-    let e = w .enter .ensures u l b in
-    let f = not-false (w .enter .result .passes) (v .before .before .before .if1 .left) in
-    explored-open (w .enter .result) e f (v .seek .result) (v .seek .ensures u l (explored-begins (w .enter .result) e f))
-
 abbrev seek-Inv-loop : seek-lts.InvT-loop
 seek-Inv-loop work period deadline priority higher residence memory exclusions co sender receiver loads amounts sizes s listing list₀ places count on k at₀ p₀ list at p =
     (p ≤ sizes .processors) × (length list ≡ length list₀)
@@ -114,185 +48,6 @@ seek-Inv-loop work period deadline priority higher residence memory exclusions c
 
 abbrev seek-μ-loop : seek-lts.MeasureT-loop
 seek-μ-loop work period deadline priority higher residence memory exclusions co sender receiver loads amounts sizes s listing list₀ places count on k at₀ p₀ list at p = sizes .processors - p
-
--- src/lib.rt:244:9
-seek-returns : (t : ℕ) → seek-lts.Need-returns (
-  bound-reads.Asked,
-  bound-reads.Learnt,
-  pick-reads.Asked,
-  pick-reads.Learnt,
-  explore-below t,
-  explore.Post,
-) (seek-at t) seek.Post seek-Inv-loop seek-μ-loop
-seek-returns t c = λ u l b. sought-end b (c .if1 .taken)
-
--- src/lib.rt:250:9
-seek-bound-requires : (t : ℕ) → seek-lts.Need-bound-requires (
-  bound-reads.Asked,
-  bound-reads.Learnt,
-  pick-reads.Asked,
-  pick-reads.Learnt,
-  explore-below t,
-  explore.Post,
-) (seek-at t) seek.Post seek-Inv-loop seek-μ-loop
-seek-bound-requires t c κs = c .before .before .before .before .before .pre .1
-
--- src/lib.rt:252:9
-seek-same-length : (t : ℕ) → seek-lts.Need-same-length (
-  bound-reads.Asked,
-  bound-reads.Learnt,
-  pick-reads.Asked,
-  pick-reads.Learnt,
-  explore-below t,
-  explore.Post,
-) (seek-at t) seek.Post seek-Inv-loop seek-μ-loop
-seek-same-length t c = search needs
-
--- src/lib.rt:252:9
-seek-returns-2 : (t : ℕ) → seek-lts.Need-returns-2 (
-  bound-reads.Asked,
-  bound-reads.Learnt,
-  pick-reads.Asked,
-  pick-reads.Learnt,
-  explore-below t,
-  explore.Post,
-) (seek-at t) seek.Post seek-Inv-loop seek-μ-loop
-seek-returns-2 t c = λ u l b. let w = c .before .before .before in bounded-hopeless (w .bound .result) (w .bound .ensures u l b) (c .if2 .taken) _
-
--- src/lib.rt:254:9
-seek-pick-requires : (t : ℕ) → seek-lts.Need-pick-requires (
-  bound-reads.Asked,
-  bound-reads.Learnt,
-  pick-reads.Asked,
-  pick-reads.Learnt,
-  explore-below t,
-  explore.Post,
-) (seek-at t) seek.Post seek-Inv-loop seek-μ-loop
-seek-pick-requires t c κs = let a = c .before .before .before .before .before .before .before .before .before .pre .1 in ((a .0, a .1, a .2 .fits), omega arith)
-
--- src/lib.rt:257:5
-seek-loop-holds : (t : ℕ) → seek-lts.Need-loop-holds (
-  bound-reads.Asked,
-  bound-reads.Learnt,
-  pick-reads.Asked,
-  pick-reads.Learnt,
-  explore-below t,
-  explore.Post,
-) (seek-at t) seek.Post seek-Inv-loop seek-μ-loop
-seek-loop-holds t c = (omega arith, refl, λ u l b. seeking-start b (c .pick .result))
-
--- src/lib.rt:258:13
-seek-explore-requires : (t : ℕ) → seek-lts.Need-explore-requires (
-  bound-reads.Asked,
-  bound-reads.Learnt,
-  pick-reads.Asked,
-  pick-reads.Learnt,
-  explore-below t,
-  explore.Post,
-) (seek-at t) seek.Post seek-Inv-loop seek-μ-loop
-seek-explore-requires t c κs =
-    let i = c .before .before .before in
-    let w = i .before .before .before .before .before in
-    let a = w .before .before .before .before .before .before .pre in
-    let b = bounded-begins (w .bound .result) (w .bound .ensures (a .1 .0) (a .1 .1) (a .1 .2)) (a .1 .2) in
-    (omega (arith, a .0), ((a .1 .0, a .1 .1, seeking-begins (i .loop .inv .2 (a .1 .0) (a .1 .1) b) b), i .before .pick .ensures, c .before .if3 .taken))
-
--- src/lib.rt:282:13
-seek-same-length-2 : (t : ℕ) → seek-lts.Need-same-length-2 (
-  bound-reads.Asked,
-  bound-reads.Learnt,
-  pick-reads.Asked,
-  pick-reads.Learnt,
-  explore-below t,
-  explore.Post,
-) (seek-at t) seek.Post seek-Inv-loop seek-μ-loop
-seek-same-length-2 t c = search needs
-
--- src/lib.rt:282:13
-seek-returns-3 : (t : ℕ) → seek-lts.Need-returns-3 (
-  bound-reads.Asked,
-  bound-reads.Learnt,
-  pick-reads.Asked,
-  pick-reads.Learnt,
-  explore-below t,
-  explore.Post,
-) (seek-at t) seek.Post seek-Inv-loop seek-μ-loop
-seek-returns-3 t c = λ u l b.
-    let x = c .before .before .before in
-    let i = x .before .before .before .before in
-    let w = i .before .before .before .before .before in
-    let m = w .bound .ensures u l b in
-    let v = i .loop .inv .2 u l (bounded-begins (w .bound .result) m b) in
-    bounded-then (w .bound .result) m (x .explore .result)
-    (seeking-found v (x .explore .result) (x .explore .ensures u l (seeking-begins v (bounded-begins (w .bound .result) m b))) (c .if4 .taken))
-
--- src/lib.rt:285:9
-seek-add-p : (t : ℕ) → seek-lts.Need-add-p (
-  bound-reads.Asked,
-  bound-reads.Learnt,
-  pick-reads.Asked,
-  pick-reads.Learnt,
-  explore-below t,
-  explore.Post,
-) (seek-at t) seek.Post seek-Inv-loop seek-μ-loop
-seek-add-p t c = search needs
-
--- src/lib.rt:257:5
-seek-loop-less : (t : ℕ) → seek-lts.Need-loop-less (
-  bound-reads.Asked,
-  bound-reads.Learnt,
-  pick-reads.Asked,
-  pick-reads.Learnt,
-  explore-below t,
-  explore.Post,
-) (seek-at t) seek.Post seek-Inv-loop seek-μ-loop
-seek-loop-less t c = omega arith
-
--- src/lib.rt:257:5
-seek-loop-again : (t : ℕ) → seek-lts.Need-loop-again (
-  bound-reads.Asked,
-  bound-reads.Learnt,
-  pick-reads.Asked,
-  pick-reads.Learnt,
-  explore-below t,
-  explore.Post,
-) (seek-at t) seek.Post seek-Inv-loop seek-μ-loop
-seek-loop-again t c =
-    let x = c .before .before .before in
-    let i = x .before .before .before .before in (
-      omega arith,
-      x .explore .kept .1 .1 .1 .1 .1 .1 .1 .1 .1 .1 .1 .1 .1 .1 .1 .1 .1 .1 .0 ∙ i .loop .inv .1,
-      λ u l b. let v = i .loop .inv .2 u l b in
-          seeking-next v (x .explore .result) (x .explore .ensures u l (seeking-begins v b)) (c .if4 .left),
-    )
-
--- src/lib.rt:217:1
-seek-same-length-3 : (t : ℕ) → seek-lts.Need-same-length-3 (
-  bound-reads.Asked,
-  bound-reads.Learnt,
-  pick-reads.Asked,
-  pick-reads.Learnt,
-  explore-below t,
-  explore.Post,
-) (seek-at t) seek.Post seek-Inv-loop seek-μ-loop
-seek-same-length-3 t c = search needs
-
--- src/lib.rt:217:1
-seek-returns-4 : (t : ℕ) → seek-lts.Need-returns-4 (
-  bound-reads.Asked,
-  bound-reads.Learnt,
-  pick-reads.Asked,
-  pick-reads.Learnt,
-  explore-below t,
-  explore.Post,
-) (seek-at t) seek.Post seek-Inv-loop seek-μ-loop
-seek-returns-4 t c = λ u l b.
-    let i = c .before .before in
-    let w = i .before .before .before .before .before in
-    let m = w .bound .ensures u l b in
-    bounded-then (w .bound .result) m _
-    (seeking-end (i .loop .inv .2 u l (bounded-begins (w .bound .result) m b)) (b .fits .open-task (i .before .pick .result) (i .before .pick .ensures) .0)
-    (omega (arith, l .rules .processors, c .if3 .left)) _)
 
 pub +explore+seek-spec : {M : Type 1} → statement M
 +explore+seek-spec = close μ-explore μ-seek (λ t. explore-lts.spec (
@@ -303,12 +58,24 @@ pub +explore+seek-spec : {M : Type 1} → statement M
 )
     (explore-at t)
     explore.Post
-    (explore-enter-requires t)
-    (explore-same-length t)
-    (explore-returns t)
-    (explore-seek-requires t)
-    (explore-same-length-2 t)
-    (explore-returns-2 t))
+    (λ c κs. c .before .before .pre .1)  -- enter-requires
+    (λ c. search needs)  -- same-length
+    (λ c u l b.
+    let w = c .before .before .before .before .before in
+    explored-closed (w .enter .result) (w .enter .ensures u l b) (not-true (w .enter .result .passes) (c .before .if1 .taken)) _)  -- returns
+    (λ c κs.
+    let w = c .before .before .before .before .before .before in
+    let a = w .before .before .before .pre in
+    let e = w .enter .ensures (a .1 .0 .0) (a .1 .0 .1) (a .1 .0 .2) in
+    let f = not-false (w .enter .result .passes) (c .before .before .if1 .left) in
+    (omega (arith, a .0, explored-falls (w .enter .result) e f (a .1 .1)), (a .1 .0 .0, a .1 .0 .1, explored-begins (w .enter .result) e f)))  -- seek-requires
+    (λ c. search needs)  -- same-length-2
+    (λ c u l b.
+    let v = c .before .before in
+    let w = v .before .before .before .before .before .before .before in
+    let e = w .enter .ensures u l b in
+    let f = not-false (w .enter .result .passes) (v .before .before .before .if1 .left) in
+    explored-open (w .enter .result) e f (v .seek .result) (v .seek .ensures u l (explored-begins (w .enter .result) e f))))  -- returns-2
     λ t. seek-lts.spec (
       bound-reads.Asked,
       bound-reads.Learnt,
@@ -321,17 +88,42 @@ pub +explore+seek-spec : {M : Type 1} → statement M
     seek.Post
     seek-Inv-loop
     seek-μ-loop
-    (seek-returns t)
-    (seek-bound-requires t)
-    (seek-same-length t)
-    (seek-returns-2 t)
-    (seek-pick-requires t)
-    (seek-loop-holds t)
-    (seek-explore-requires t)
-    (seek-same-length-2 t)
-    (seek-returns-3 t)
-    (seek-add-p t)
-    (seek-loop-less t)
-    (seek-loop-again t)
-    (seek-same-length-3 t)
-    (seek-returns-4 t)
+    (λ c u l b. sought-end b (c .if1 .taken))  -- returns
+    (λ c κs. c .before .before .before .before .before .pre .1)  -- bound-requires
+    (λ c. search needs)  -- same-length
+    (λ c u l b. let w = c .before .before .before in bounded-hopeless (w .bound .result) (w .bound .ensures u l b) (c .if2 .taken) _)  -- returns-2
+    (λ c κs. let a = c .before .before .before .before .before .before .before .before .before .pre .1 in ((a .0, a .1, a .2 .fits), omega arith))  -- pick-requires
+    (λ c. (omega arith, refl, λ u l b. seeking-start b (c .pick .result)))  -- loop-holds
+    (λ c κs.
+    let i = c .before .before .before in
+    let w = i .before .before .before .before .before in
+    let a = w .before .before .before .before .before .before .pre in
+    let b = bounded-begins (w .bound .result) (w .bound .ensures (a .1 .0) (a .1 .1) (a .1 .2)) (a .1 .2) in
+    (omega (arith, a .0), ((a .1 .0, a .1 .1, seeking-begins (i .loop .inv .2 (a .1 .0) (a .1 .1) b) b), i .before .pick .ensures, c .before .if3 .taken)))  -- explore-requires
+    (λ c. search needs)  -- same-length-2
+    (λ c u l b.
+    let x = c .before .before .before in
+    let i = x .before .before .before .before in
+    let w = i .before .before .before .before .before in
+    let m = w .bound .ensures u l b in
+    let v = i .loop .inv .2 u l (bounded-begins (w .bound .result) m b) in
+    bounded-then (w .bound .result) m (x .explore .result)
+    (seeking-found v (x .explore .result) (x .explore .ensures u l (seeking-begins v (bounded-begins (w .bound .result) m b))) (c .if4 .taken)))  -- returns-3
+    (λ c. search needs)  -- add-p
+    (λ c. omega arith)  -- loop-less
+    (λ c.
+    let x = c .before .before .before in
+    let i = x .before .before .before .before in (
+      omega arith,
+      x .explore .kept .1 .1 .1 .1 .1 .1 .1 .1 .1 .1 .1 .1 .1 .1 .1 .1 .1 .1 .0 ∙ i .loop .inv .1,
+      λ u l b. let v = i .loop .inv .2 u l b in
+          seeking-next v (x .explore .result) (x .explore .ensures u l (seeking-begins v b)) (c .if4 .left),
+    ))  -- loop-again
+    (λ c. search needs)  -- same-length-3
+    (λ c u l b.
+    let i = c .before .before in
+    let w = i .before .before .before .before .before in
+    let m = w .bound .ensures u l b in
+    bounded-then (w .bound .result) m _
+    (seeking-end (i .loop .inv .2 u l (bounded-begins (w .bound .result) m b)) (b .fits .open-task (i .before .pick .result) (i .before .pick .ensures) .0)
+    (omega (arith, l .rules .processors, c .if3 .left)) _))  -- returns-4
