@@ -1,6 +1,7 @@
 /* The placement tool's functions for C. Link with libexport.a (rt staticlib export).
  *
- * Every buffer belongs to the caller. No function keeps a pointer, allocates, writes, or reads beyond the length it is given.
+ * Every buffer belongs to the caller. No function keeps a pointer, allocates, or reads beyond the length it is given; only placement_search writes,
+ * and only into its answer.
  * A pointer is valid for its length, also where that is 0. Each call returns.
  *
  * Where 64 bits come back, a refusal's number (as in the README) is answer >> 32, its place (uint32_t)answer.
@@ -25,6 +26,16 @@ uint64_t placement_conflict(const uint8_t *file, size_t length, uint32_t mask);
  * Returns the refusal's number (1 to 11, 13, 14), 0 if every rule is kept, or the number of the first broken rule (101 to 107).
  */
 uint16_t placement_judge(const uint8_t *file, size_t length, const uint8_t *placement, size_t placement_length);
+
+/* Searches the first placement of the file's tasks, in order of task then processor, that keeps every rule and every deadline, and the conflicts that
+ * rule out the placements before it. The answer buffer must not overlap the file. For n tasks it takes n + 5 bytes and 6 for each conflict:
+ *   AL and n processor bytes, or NO and n bytes 255 where there is no placement;
+ *   NG and a 32-bit mask, little-endian, for each conflict listed, as long as there are places;
+ *   EN and 1 if the list is complete, 0 if it is cut.
+ * Returns the count of bytes written, which is below 2^32; later bytes of the answer keep their contents. Or the refusal (1 to 11; 12 if the answer
+ * is shorter than n + 5), and then nothing is written.
+ */
+uint64_t placement_search(const uint8_t *file, size_t length, uint8_t *answer, size_t answer_length);
 
 /* Counts the late ones among some sets of the file's tasks, one lateness test for each: for measuring.
  * A set with an unknown task does not count; a file that is refused has none.

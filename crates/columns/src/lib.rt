@@ -7,7 +7,7 @@ ghost use Rattle.finite.specs.Finite.{only};
 ghost use Rattle.table.specs.Sound.{Sound};
 ghost use Rattle.rules.specs.Rules.{amountOf};
 ghost use Rattle.columns.specs.Columns.{loadsOf, amountsOf, excludedFrom, exclusionsOf};
-use rules::Load;
+use load::Load;
 use table::Table;
 
 // The load of task k, 0 beyond the tasks.

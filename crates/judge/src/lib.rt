@@ -128,7 +128,7 @@ fn judge_table(t: Table, placement: &[u8]) -> Judged
     }
     let sets = rules::sets_of(placement);
     let responses = responses_of(t, placement, sets);
-    let check = rules::first_broken(t, sets, responses);
+    let check = checking::first_broken(t, sets, responses);
     let judgement = judgement_by(check);
     Judged {
         judgement,

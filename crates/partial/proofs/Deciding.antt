@@ -1,6 +1,6 @@
 -- The tests on the lent columns decide whether the open task k on processor p keeps the rules. Assumes nothing.
 use mathlib.Core.Path.{_≡_, refl, _∙_}
-use mathlib.Core.Logic.{_⊎_, inl, inr}
+use mathlib.Core.Logic.{_≢_, _⊎_, inl, inr}
 use mathlib.Core.Bool.{Bool, true, false, not, _&&_, _||_}
 use mathlib.Core.List.{List}
 use Prim.Native.Nat.{ℕ, _+_, _*_, _/_, _≤_, _<_}
@@ -25,6 +25,14 @@ use Rattle.partial.specs.declared.Sizes.{Sizes}
 use Rattle.partial.specs.Partial.{Lent, Fits}
 use Rattle.partial.specs.Tests.{neither, suits, parted, between, SmallMessages, TrialOf}
 use Rattle.partial.proofs.OneMore as one
+
+-- the tasks on other processors than p, as the code finds them
+abbrev pub othersThan : Sizes → State → ℕ → ℕ
+othersThan sizes s p = neither (sizes .tasks) (s .left) (getD (s .on) p 0)
+
+-- the rules are kept with task k on p
+abbrev pub KeepsWith : Table → State → ℕ → ℕ → Type 0
+KeepsWith t s k p = Keeps t (andTask (standing (s .on)) k p)
 
 -- the tasks that are neither open nor on p stand on another processor
 pub others-stand : {t : Table} {s : State} → Fits t s → (p j : ℕ)
@@ -54,9 +62,9 @@ others-stand {t} {s} f p j = has-mask n (λ i. not (has here i || has (s .left) 
     back u =
         let e = elsewhere-elim m (standing (s .on) j) u in
         and-both (ltb j n) out (lt→ltb j n (f .partial .task j (e .0) (e .3)))
-        (not-T (has here j || has (s .left) j) (λ x. go (e .0) (e .3) (λ q. e .2 q) (or-either (has here j) (has (s .left) j) x)))
+        (not-T (has here j || has (s .left) j) (λ x. go (e .0) (e .3) (e .2) (or-either (has here j) (has (s .left) j) x)))
       where
-        go : (r : ℕ) → T (standing (s .on) j r) → (r ≡ p → ⊥) → T (has here j) ⊎ T (has (s .left) j) → ⊥
+        go : (r : ℕ) → T (standing (s .on) j r) → r ≢ p → T (has here j) ⊎ T (has (s .left) j) → ⊥
         go r v d (inl x) = d (f .partial .once j r p v x)
         go r v d (inr x) = f .open-task j x .1 r v
 
@@ -77,37 +85,37 @@ module _ {t : Table} {sizes : Sizes} {residence memory exclusions co sender rece
   unfolding loadsOf
   load-at = rw (e .same-loads) (column-in 24 (t .tasks .count) (λ i. getD (t .tasks .c) i 0 * t .hyperperiod / getD (t .tasks .t) i 0) k (e .sound .tasks .most) task)
 
-  others-at : (j : ℕ) → has (neither (sizes .tasks) (s .left) (getD (s .on) p 0)) j ≡ elsewhere (t .processors .count) p (standing (s .on) j)
+  others-at : (j : ℕ) → has (othersThan sizes s p) j ≡ elsewhere (t .processors .count) p (standing (s .on) j)
   others-at j = rw (e .tasks) (others-stand f p j)
 
   -- what task k on p adds to the network
   pub traffic-with : traffic t (andTask (standing (s .on)) k p)
-      ≡ traffic t (standing (s .on)) + between sender receiver amounts (sizes .messages) k (neither (sizes .tasks) (s .left) (getD (s .on) p 0))
+      ≡ traffic t (standing (s .on)) + between sender receiver amounts (sizes .messages) k (othersThan sizes s p)
   traffic-with =
-      one.traffic-more t (e .sound) (standing (s .on)) (f .keeps) k p task on-table (f .open-task k free .1) (neither (sizes .tasks) (s .left) (getD (s .on) p 0)) others-at
+      one.traffic-more t (e .sound) (standing (s .on)) (f .keeps) k p task on-table (f .open-task k free .1) (othersThan sizes s p) others-at
       ∙ rw (e .same-sender, e .same-receiver, e .same-amounts, e .messages) refl
 
   -- ---- rules that are kept
 
-  pub keeps-memory : Keeps t (andTask (standing (s .on)) k p) → getD memory k 0 ≤ getD (s .memory) p 0
+  pub keeps-memory : KeepsWith t s k p → getD memory k 0 ≤ getD (s .memory) p 0
   keeps-memory keeps = rw (e .same-memory)
       (one.memory-needed t (e .sound) (standing (s .on)) (f .keeps) k p task on-table (f .open-task k free .1) (getD (s .memory) p 0) (f .memory p on-table) keeps)
 
-  pub keeps-load : Keeps t (andTask (standing (s .on)) k p) → getD loads k 0 ≤ getD (s .load) p 0
+  pub keeps-load : KeepsWith t s k p → getD loads k 0 ≤ getD (s .load) p 0
   keeps-load keeps = rw load-at
       (one.utilisation-needed t (e .sound) (standing (s .on)) (f .keeps) k p task on-table (f .open-task k free .1) (getD (s .load) p 0) (f .load p on-table) keeps)
 
-  pub keeps-whole : Keeps t (andTask (standing (s .on)) k p) → T (parted co (sizes .groups) k (neither (sizes .tasks) (s .left) (getD (s .on) p 0))) → ⊥
+  pub keeps-whole : KeepsWith t s k p → T (parted co (sizes .groups) k (othersThan sizes s p)) → ⊥
   keeps-whole keeps = rw (e .same-co, e .groups)
-      (one.co-residence-needed t (e .sound) (standing (s .on)) (f .keeps) k p task on-table (neither (sizes .tasks) (s .left) (getD (s .on) p 0)) others-at keeps)
+      (one.co-residence-needed t (e .sound) (standing (s .on)) (f .keeps) k p task on-table (othersThan sizes s p) others-at keeps)
 
-  pub keeps-carries : Keeps t (andTask (standing (s .on)) k p) → between sender receiver amounts (sizes .messages) k (neither (sizes .tasks) (s .left) (getD (s .on) p 0)) ≤ s .traffic
+  pub keeps-carries : KeepsWith t s k p → between sender receiver amounts (sizes .messages) k (othersThan sizes s p) ≤ s .traffic
   unfolding networkBroken
   keeps-carries keeps =
       omega (arith, traffic-with, f .traffic, one.kept-le (t .capacity * t .hyperperiod) (traffic t (andTask (standing (s .on)) k p)) (keeps .network))
 
   -- what the task itself asks of p
-  pub keeps-suits : Keeps t (andTask (standing (s .on)) k p) → T (suits residence memory exclusions loads s k p)
+  pub keeps-suits : KeepsWith t s k p → T (suits residence memory exclusions loads s k p)
   unfolding suits
   keeps-suits keeps =
       let old = f .keeps in
@@ -121,9 +129,9 @@ module _ {t : Table} {sizes : Sizes} {residence memory exclusions co sender rece
 
   -- tests that pass
   pub tests-keep : T (suits residence memory exclusions loads s k p)
-      → (T (parted co (sizes .groups) k (neither (sizes .tasks) (s .left) (getD (s .on) p 0))) → ⊥)
-      → between sender receiver amounts (sizes .messages) k (neither (sizes .tasks) (s .left) (getD (s .on) p 0)) ≤ s .traffic
-      → Keeps t (andTask (standing (s .on)) k p)
+      → (T (parted co (sizes .groups) k (othersThan sizes s p)) → ⊥)
+      → between sender receiver amounts (sizes .messages) k (othersThan sizes s p) ≤ s .traffic
+      → KeepsWith t s k p
   unfolding suits networkBroken
   tests-keep u whole carries =
       let old = f .keeps in
@@ -134,7 +142,7 @@ module _ {t : Table} {sizes : Sizes} {residence memory exclusions co sender rece
       let second = and-right (has (getD residence k 0) p && leb (getD memory k 0) (getD (s .memory) p 0)) _ u in
       record {
         residence = one.residence-kept t sound on old k p task on-table (rw (e .same-residence) at (and-left (has (getD residence k 0) p) _ first));
-        co-residence = one.co-residence-kept t sound on old k p task on-table (neither (sizes .tasks) (s .left) (getD (s .on) p 0)) others-at (rw (e .same-co, e .groups) at whole);
+        co-residence = one.co-residence-kept t sound on old k p task on-table (othersThan sizes s p) others-at (rw (e .same-co, e .groups) at whole);
         exclusion = one.exclusion-kept t sound on old k p task on-table (getD (s .on) p 0) (λ j. refl)
             (rw excluded-at at (T-not (meets (getD exclusions k 0) (getD (s .on) p 0)) (and-right (leb (getD loads k 0) (getD (s .load) p 0)) _ second)));
         memory = one.memory-kept t sound on old k p task on-table new (getD (s .memory) p 0) (f .memory p on-table)
@@ -146,11 +154,11 @@ module _ {t : Table} {sizes : Sizes} {residence memory exclusions co sender rece
 
   -- ---- the answer, as the code comes to it
 
-  pub own-test-fails : {own : Bool} → own ≡ suits residence memory exclusions loads s k p → not own ≡ true → Keeps t (andTask (standing (s .on)) k p) → ⊥
+  pub own-test-fails : {own : Bool} → own ≡ suits residence memory exclusions loads s k p → not own ≡ true → KeepsWith t s k p → ⊥
   own-test-fails {own} a no-own keeps = rw (← a, not-true own no-own) at (keeps-suits keeps)
 
-  module _ {others : ℕ} (o : others ≡ neither (sizes .tasks) (s .left) (getD (s .on) p 0)) where
-    pub group-parted : {apart : Bool} → apart ≡ parted co (sizes .groups) k others → apart ≡ true → Keeps t (andTask (standing (s .on)) k p) → ⊥
+  module _ {others : ℕ} (o : others ≡ othersThan sizes s p) where
+    pub group-parted : {apart : Bool} → apart ≡ parted co (sizes .groups) k others → apart ≡ true → KeepsWith t s k p → ⊥
     group-parted b is-apart keeps = keeps-whole keeps (rw (← o, ← b, is-apart) tt)
 
     -- the last test decides
@@ -158,7 +166,7 @@ module _ {t : Table} {sizes : Sizes} {residence memory exclusions co sender rece
         → added ≡ between sender receiver amounts (sizes .messages) k others → TrialOf t s k p (leb added (s .traffic)) added
     network-decides {own} {apart} {added} a is-own b not-apart d = go (leb added (s .traffic)) refl
       where
-        sum : added ≡ between sender receiver amounts (sizes .messages) k (neither (sizes .tasks) (s .left) (getD (s .on) p 0))
+        sum : added ≡ between sender receiver amounts (sizes .messages) k (othersThan sizes s p)
         sum = rw (← o) d
 
         go : (x : Bool) → leb added (s .traffic) ≡ x → TrialOf t s k p x added

@@ -1,13 +1,13 @@
 -- The state with one task more fits the table, and other laws of states. Assumes nothing.
 use mathlib.Core.Path.{_≡_, refl, sym, subst, fun-ext, _∙_}
 use mathlib.Core.Logic.{_≢_, _⊎_, inl, inr}
-use mathlib.Core.Bool.{Bool, true, false, not, _&&_, _||_, and-false, and-true}
+use mathlib.Core.Bool.{Bool, cond, true, false, _&&_, _||_, and-false, and-true}
 use mathlib.Core.List.{List}
 use Prim.Native.Nat.{ℕ, _+_, _-_, _*_, _/_, _^_, _≤_, _<_}
 use native.Mathlib.Nat.{lt-of-lt-of-le}
 use native.Mathlib.Omega.{arith}
 use native.Mathlib.Decide.{ℕ-discrete}
-use borrow.Author.Tests.{eq-eqb, ne-eqb, not-true, not-false}
+use borrow.Author.Tests.{eq-eqb, ne-eqb}
 use lib.Dec.{T, eqb, ltb→lt}
 use lib.ListN.{length, getD, set, length-set}
 use lib.Pow.{pow-mono}
@@ -22,8 +22,8 @@ use Rattle.rules.specs.Sets.{standing}
 use Rattle.rules.proofs.Step.{step-memory, step-memory-other, step-load, step-load-other}
 use Rattle.partial.specs.declared.State.{State}
 use Rattle.partial.specs.declared.Sizes.{Sizes}
-use Rattle.partial.specs.Partial.{Lent, Partial, Fits, Stepped}
-use Rattle.partial.specs.Tests.{Tried, TrialOf, withTask}
+use Rattle.partial.specs.Partial.{Lent, Partial, Fits, Stepped, StepOf}
+use Rattle.partial.specs.Tests.{Tried, TrialOf, withTask, Enough}
 use Rattle.partial.proofs.Deciding.{load-at, traffic-with, keeps-memory, keeps-load, keeps-carries}
 use Rattle.partial.proofs.OneMore.{stood, stays, stands, work}
 
@@ -105,8 +105,8 @@ module _ {t : Table} {s : State} (f : Fits t s) (k p : ℕ) (free : T (has (s .l
 
   -- the state with the task
   pub stepped : t .processors .count ≤ 8 → {memory load added : ℕ} → memory ≡ getD (t .tasks .memory) k 0 → load ≡ work t k
-      → memory ≤ getD (s .memory) p 0 → load ≤ getD (s .load) p 0 → added ≤ s .traffic → Tried t s k p added → Stepped t s k p (withTask s k p memory load added)
-  stepped few {memory} {load} {added} is-memory is-load fit-memory fit-load fit-traffic w = record {
+      → Enough s p memory load added → Tried t s k p added → Stepped t s k p (withTask s k p memory load added)
+  stepped few {memory} {load} {added} is-memory is-load fit w = record {
     fits = record {
       partial = partial-more r long e;
       keeps = subst (Keeps t) (sym e) (w .keeps);
@@ -114,13 +114,13 @@ module _ {t : Table} {s : State} (f : Fits t s) (k p : ℕ) (free : T (has (s .l
       placed-task = placed-more r long e refl;
       memory-long = length-set (s .memory) p _ ∙ f .memory-long;
       memory = left-less (s .memory) (t .processors .count) p memory (memoryOn t (standing (s .on))) (memoryOn t (standing (r .on))) (λ q. getD (t .processors .memory) q 0)
-          (omega (arith, f .memory-long)) fit-memory
+          (omega (arith, f .memory-long)) (fit .enough-memory)
           (rw (e, is-memory) (step-memory t (standing (s .on)) k p task (new p))) (λ q d. rw e (step-memory-other t (standing (s .on)) k p d)) (f .memory);
       load-long = length-set (s .load) p _ ∙ f .load-long;
       load = left-less (s .load) (t .processors .count) p load (loadOn t (standing (s .on))) (loadOn t (standing (r .on))) (λ q. getD (t .processors .limit) q 0 * t .hyperperiod / 1000)
-          (omega (arith, f .load-long)) fit-load
+          (omega (arith, f .load-long)) (fit .enough-load)
           (rw (e, is-load) (step-load t (standing (s .on)) k p task (new p))) (λ q d. rw e (step-load-other t (standing (s .on)) k p d)) (f .load);
-      traffic = rw e (omega (arith, f .traffic, w .traffic));
+      traffic = rw e (omega (arith, f .traffic, fit .enough-traffic, w .traffic));
     };
     on = e;
     left = refl;
@@ -143,31 +143,23 @@ module _ {t : Table} {s : State} (f : Fits t s) (k p : ℕ) (free : T (has (s .l
 
 -- ---- from the answer of a trial, on lent columns
 
-trial-true : (t : Table) (s : State) (k p : ℕ) (allowed : Bool) (added : ℕ) → TrialOf t s k p allowed added → not allowed ≡ false → Tried t s k p added
-trial-true t s k p allowed added w q = rw (not-false allowed q) at w
-
-pub trial-false : (t : Table) (s : State) (k p : ℕ) (allowed : Bool) (added : ℕ) → TrialOf t s k p allowed added → not allowed ≡ true → Keeps t (andTask (standing (s .on)) k p) → ⊥
-trial-false t s k p allowed added w q = rw (not-true allowed q) at w
-
 module _ {t : Table} {sizes : Sizes} {residence memory exclusions co sender receiver loads amounts : List ℕ} {s : State}
     (e : Lent t sizes residence memory exclusions co sender receiver loads amounts) (f : Fits t s)
-    (k p : ℕ) (free : T (has (s .left) k)) (low : p < sizes .processors)
-    (allowed : Bool) (added : ℕ) (w : TrialOf t s k p allowed added) (q : not allowed ≡ false) where
-  tried : Tried t s k p added
-  tried = trial-true t s k p allowed added w q
+    (k p : ℕ) (free : T (has (s .left) k)) (low : p < sizes .processors) where
+  enough : {added : ℕ} → Tried t s k p added → Enough s p (getD memory k 0) (getD loads k 0) added
+  enough w = record {
+    enough-memory = keeps-memory e f k p free low (w .keeps);
+    enough-load = keeps-load e f k p free low (w .keeps);
+    enough-traffic = omega (arith, traffic-with e f k p free low, keeps-carries e f k p free low (w .keeps), w .traffic);
+  }
 
-  -- the task takes no more than there is left
-  pub enough : (getD memory k 0 ≤ getD (s .memory) p 0) × (getD loads k 0 ≤ getD (s .load) p 0) × (added ≤ s .traffic)
-  enough = (
-    keeps-memory e f k p free low (tried .keeps),
-    keeps-load e f k p free low (tried .keeps),
-    omega (arith, traffic-with e f k p free low, keeps-carries e f k p free low (tried .keeps), tried .traffic),
-  )
+  pub trial-enough : (allowed : Bool) (added : ℕ) → TrialOf t s k p allowed added → T allowed → Enough s p (getD memory k 0) (getD loads k 0) added
+  trial-enough true added w u = enough w
+  trial-enough false added w u = absurd u
 
-  pub lent-stepped : Stepped t s k p (withTask s k p (getD memory k 0) (getD loads k 0) added)
-  lent-stepped =
-      stepped f k p free (omega (arith, e .processors)) (e .sound .processors .most) (rw (e .same-memory) refl) (load-at e f k p free low)
-      (enough .0) (enough .1) (enough .2) tried
+  pub trial-step : (allowed : Bool) (added : ℕ) → TrialOf t s k p allowed added → StepOf t s k p allowed (cond allowed (withTask s k p (getD memory k 0) (getD loads k 0) added) s)
+  trial-step true added w = stepped f k p free (omega (arith, e .processors)) (e .sound .processors .most) (rw (e .same-memory) refl) (load-at e f k p free low) (enough w) w
+  trial-step false added w = w
 
 -- ---- the open tasks
 

@@ -1,5 +1,5 @@
 -- What the code tests before it puts task k on processor p, from the lent columns and masks alone.
-use mathlib.Core.Bool.{Bool, true, false, not, _&&_, _||_}
+use mathlib.Core.Bool.{Bool, true, false, not, _&&_, _||_, cond}
 use mathlib.Core.List.{List}
 use mathlib.Core.Path.{_≡_}
 use Prim.Native.Nat.{ℕ, _+_, _-_, _≤_, _<_}
@@ -12,6 +12,8 @@ use Rattle.rules.specs.Placement.{andTask}
 use Rattle.rules.specs.Rules.{Keeps, traffic}
 use Rattle.rules.specs.Sets.{standing, meets}
 use Rattle.partial.specs.declared.State.{State}
+use Rattle.partial.specs.declared.Trial.{Trial}
+use Rattle.partial.specs.declared.Stepping.{Stepping}
 
 -- the tasks below n that are in neither set
 unfoldable pub neither : ℕ → ℕ → ℕ → ℕ
@@ -60,6 +62,16 @@ withTask s k p memory load added = record {
   load = set (s .load) p (getD (s .load) p 0 - load);
   traffic = s .traffic - added;
 }
+
+-- it takes no more than there is
+pub record Enough (s : State) (p memory load added : ℕ) : Type 0 where
+  pub enough-memory : memory ≤ getD (s .memory) p 0
+  pub enough-load : load ≤ getD (s .load) p 0
+  pub enough-traffic : added ≤ s .traffic
+
+-- the state with the task where a trial allowed it, else the state as it was
+abbrev pub stepAfter : State → ℕ → ℕ → ℕ → ℕ → Trial → Stepping
+stepAfter s k p memory load trial = record { allowed = trial .allowed; next = cond (trial .allowed) (withTask s k p memory load (trial .added)) s }
 
 -- the processor of task k, the lowest that has it
 abbrev pub processorOf : List ℕ → ℕ → ℕ → ℕ

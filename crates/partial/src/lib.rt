@@ -2,7 +2,6 @@
 ghost use mathlib.Core.Path.{_≡_};
 ghost use Prim.Native.Nat.{_<_, _≤_};
 ghost use lib.Dec.{T};
-ghost use lib.ListN.{getD};
 ghost use mathlib.Core.Bool.{true};
 ghost use Rattle.mask.specs.Mask.{has, maskOf};
 ghost use Rattle.table.specs.declared.Table.{Table};
@@ -12,7 +11,7 @@ ghost use Rattle.rules.specs.Placement.{andTask};
 ghost use Rattle.rules.specs.Rules.{Keeps};
 ghost use Rattle.rules.specs.Sets.{standing};
 ghost use Rattle.partial.specs.Partial.{Lent, Whole, Fits, StepOf, Started, Names};
-ghost use Rattle.partial.specs.Tests.{neither, suits, parted, joins, between, SmallMessages, TrialOf, withTask, processorOf};
+ghost use Rattle.partial.specs.Tests.{neither, suits, parted, joins, between, SmallMessages, TrialOf, Enough, stepAfter, processorOf};
 use table::Table;
 
 // How many there are of each.
@@ -218,24 +217,33 @@ pub fn allows<'a>(
     trial.allowed
 }
 
-// The state with task k on processor p, where it takes so much memory and load, and so much of the network.
-fn with_task(s: State, k: usize, p: usize, memory: u32, load: u64, added: u64) -> State
-    requires { ⌜ (k < 32) × (p < 8) × (memory ≤ getD (s .memory) p 0) × (load ≤ getD (s .load) p 0) × (added ≤ s .traffic) ⌝ }
-    ensures { λ r. ⌜ r ≡ withTask s k p memory load added ⌝ }
+// Whether the rules allow the task, and the state with it; the state as it was where they do not.
+pub struct Stepping {
+    pub allowed: bool,
+    pub next: State,
+}
+
+// The step after a trial of task k on processor p, where it takes so much memory and load.
+fn follow(s: State, k: usize, p: usize, memory: u32, load: u64, trial: Trial) -> Stepping
+    requires { ⌜ (k < 32) × (p < 8) × (T (trial .allowed) → Enough s p memory load (trial .added)) ⌝ }
+    ensures { λ r. ⌜ r ≡ stepAfter s k p memory load trial ⌝ }
 {
+    if !trial.allowed {
+        return Stepping {
+            allowed: false,
+            next: s,
+        };
+    }
     let mut next = s;
     next.on[p] = mask::insert(s.on[p], k);
     next.left = mask::remove(s.left, k);
     next.memory[p] = s.memory[p] - wide(memory);
     next.load[p] = s.load[p] - load;
-    next.traffic = s.traffic - added;
-    next
-}
-
-// Whether the rules allow the task, and the state with it; the state as it was where they do not.
-pub struct Stepping {
-    pub allowed: bool,
-    pub next: State,
+    next.traffic = s.traffic - trial.added;
+    Stepping {
+        allowed: true,
+        next,
+    }
 }
 
 // The open task k put on processor p.
@@ -272,16 +280,7 @@ pub fn step<'a>(
         k,
         p,
     );
-    if !trial.allowed {
-        return Stepping {
-            allowed: false,
-            next: s,
-        };
-    }
-    Stepping {
-        allowed: true,
-        next: with_task(s, k, p, memory[k], loads[k], trial.added),
-    }
+    follow(s, k, p, memory[k], loads[k], trial)
 }
 
 // Nothing is placed yet.

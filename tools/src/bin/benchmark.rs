@@ -1,7 +1,10 @@
-//! Times of the tool beside those of plain Rust. Nothing is asserted: the numbers are for reading.
+//! Times of the tool beside those of plain Rust, and of its search. Nothing is asserted: the numbers are for reading.
 
 use std::hint::black_box;
-use std::time::Instant;
+use std::path::Path;
+use std::process::Command;
+use std::time::{Duration, Instant};
+use std::{env, fs, thread};
 use tools::examples::task;
 use tools::file::encode;
 use tools::generate::sets::free_table;
@@ -15,7 +18,54 @@ use tools::{reader, tool};
 const ROUNDS: usize = 9;
 const CALLS: usize = 20_000;
 
+/// How long a search may take before it is stopped.
+const LIMIT: Duration = Duration::from_secs(5);
+
 fn main() {
+    if let Some(path) = env::args().nth(1) {
+        return search(Path::new(&path));
+    }
+    compared();
+    let folder = Path::new(env!("CARGO_MANIFEST_DIR")).join("tables");
+    let entries = fs::read_dir(folder).expect("the tables");
+    let mut tables: Vec<_> = entries.map(|entry| entry.expect("a table").path()).collect();
+    tables.sort();
+    tables.iter().for_each(|table| search_within_limit(table));
+}
+
+/// Searches in a process of its own, so that one that takes too long can be stopped.
+fn search_within_limit(table: &Path) {
+    let program = env::current_exe().expect("this program");
+    let mut child = Command::new(program).arg(table).spawn().expect("a process");
+    let start = Instant::now();
+    while start.elapsed() < LIMIT {
+        if child.try_wait().expect("its state").is_some() {
+            return;
+        }
+        thread::sleep(Duration::from_millis(1));
+    }
+    child.kill().and_then(|()| child.wait()).expect("it stops");
+    println!("search {}: stopped after {LIMIT:?}", name(table));
+}
+
+/// The answer to a table, with the program's buffer: how many conflicts are listed, the mark, the time.
+fn search(path: &Path) {
+    let file = fs::read(path).expect("a table");
+    let tasks = reader::read(&file).expect("a readable table").tasks.len();
+    let mut answer = [0; 16_384];
+    let start = Instant::now();
+    let count = tool::search(&file, &mut answer).expect("an answer");
+    let time = start.elapsed();
+    let head = if answer.starts_with(b"AL") { "found" } else { "none" };
+    let mark = if answer[count - 1] == 1 { "complete" } else { "cut" };
+    println!("search {}: {head}, {} conflicts, {mark}, {time:.1?}", name(path), (count - tasks - 5) / 6);
+}
+
+fn name(table: &Path) -> String {
+    table.file_stem().map_or_else(String::new, |stem| stem.to_string_lossy().into_owned())
+}
+
+fn compared() {
     let file = encode(&table(&mut Random::new(1), Shape::FULL));
     let row = format!("read a file of {} bytes", file.len());
     beside(&row, &|| tool::read(black_box(&file)), &|| reader::read_code(black_box(&file)));

@@ -1,0 +1,36 @@
+// The load of a processor.
+ghost use mathlib.Core.Path.{_≡_};
+ghost use Prim.Native.Nat.{_+_, _*_, _/_, _≤_};
+ghost use lib.Dec.{ltb};
+
+// The work of a processor in one hyperperiod: 0 where it is idle, H where it is full.
+pub struct Load(pub u64);
+
+impl Load {
+    pub const IDLE: Load = Load(0);
+
+    pub fn full(h: u64) -> Self
+        ensures { λ r. ⌜ r .0 ≡ h ⌝ }
+    {
+        Load(h)
+    }
+
+    // With one task more: C × H / T.
+    pub fn with_task(self, c: u32, t: u32, h: u64) -> Self
+        requires { ⌜ (1 ≤ t) × (c ≤ t) × (t ≤ 1000000) × (h ≤ 1000000000) × (self .0 ≤ 23 * 1000000000) ⌝ }
+        ensures { λ r. ⌜ r .0 ≡ self .0 + c * h / t ⌝ }
+    {
+        let x = c as u64;
+        let y = t as u64;
+        Load(self.0 + x * h / y)
+    }
+
+    // Whether the load is above so many thousandths of a full one.
+    pub fn exceeds(self, limit: u32, h: u64) -> bool
+        requires { ⌜ (limit ≤ 1000) × (h ≤ 1000000000) × (self .0 ≤ 24 * 1000000000) ⌝ }
+        ensures { λ r. ⌜ r ≡ ltb (limit * h) (1000 * self .0) ⌝ }
+    {
+        let full = Load::full(h);
+        (limit as u64) * full.0 < 1000 * self.0
+    }
+}
