@@ -105,6 +105,24 @@ pub enum Cause {
     BadConflictMask = 15,
 }
 
+pub const CAUSES: [Cause; 15] = [
+    Cause::Cut,
+    Cause::UnknownMark,
+    Cause::OutOfOrder,
+    Cause::TooMany,
+    Cause::OutOfRange,
+    Cause::NotInFile,
+    Cause::PriorityUsed,
+    Cause::PeriodsDiffer,
+    Cause::PairRepeated,
+    Cause::HyperperiodTooLarge,
+    Cause::KindMissing,
+    Cause::BufferTooShort,
+    Cause::PlacementLength,
+    Cause::UnknownProcessor,
+    Cause::BadConflictMask,
+];
+
 #[derive(Clone, Copy, Debug, PartialEq, Eq)]
 pub struct Refusal {
     pub cause: Cause,
@@ -115,6 +133,12 @@ impl Refusal {
     /// The refusal as the C functions return it: the number in the high 32 bits, the place in the low.
     pub fn code(self) -> u64 {
         ((self.cause as u64) << 32) + self.place as u64
+    }
+
+    /// The refusal that has this code, if the number is one of 01's.
+    pub fn of_code(code: u64) -> Option<Refusal> {
+        let cause = CAUSES.into_iter().find(|&cause| cause as u64 == code >> 32)?;
+        Some(Refusal { cause, place: code as u32 as usize })
     }
 }
 

@@ -1,5 +1,7 @@
 //! The tool's C functions.
 
+use crate::model::Refusal;
+
 mod c {
     unsafe extern "C" {
         pub fn placement_read(file: *const u8, length: usize) -> u64;
@@ -10,6 +12,8 @@ mod c {
             placement: *const u8,
             placement_length: usize,
         ) -> u16;
+        pub fn placement_search(file: *const u8, length: usize, answer: *mut u8, answer_length: usize)
+        -> u64;
         pub fn placement_late_sets(file: *const u8, length: usize, sets: *const u32, count: usize) -> u64;
     }
 }
@@ -30,6 +34,17 @@ pub fn conflict(file: &[u8], mask: u32) -> u64 {
 pub fn judge(file: &[u8], placement: &[u8]) -> u16 {
     // SAFETY: the slices are valid during the call, and the function only reads them.
     unsafe { c::placement_judge(file.as_ptr(), file.len(), placement.as_ptr(), placement.len()) }
+}
+
+/// The count of bytes written into the answer, or the refusal.
+pub fn search(file: &[u8], answer: &mut [u8]) -> Result<usize, Refusal> {
+    // SAFETY: the slices are valid during the call; the function only reads the file, and writes within
+    // the answer alone.
+    let code = unsafe { c::placement_search(file.as_ptr(), file.len(), answer.as_mut_ptr(), answer.len()) };
+    match code >> 32 {
+        0 => Ok(code as usize),
+        _ => Err(Refusal::of_code(code).unwrap_or_else(|| panic!("no refusal of 01: {code:#x}"))),
+    }
 }
 
 /// How many of the sets are late; 0 for a file that is refused.

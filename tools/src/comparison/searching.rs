@@ -1,12 +1,15 @@
-//! Checks a search on many small tables, for which all placements can be tried.
+//! Checks a search: on small tables, for which all placements can be tried, and on medium ones.
 
 use crate::file::encode;
+use crate::generate::crowded::{medium_table, small_table};
 use crate::generate::faulty::all_meetings;
-use crate::generate::small::small_table;
 use crate::model::{Cause, Refusal, Table};
 use crate::random::Random;
 use crate::reader::read;
-use crate::search::{Fault, Truth, shortest_answer};
+use crate::search::checker::{Checker, Fault, Listing};
+use crate::search::enumerated::Enumerated;
+use crate::search::pruned::Pruned;
+use crate::search::{Truth, answer, places, shortest_answer};
 
 /// The count of bytes written, or the refusal.
 pub type Answer = Result<usize, Refusal>;
@@ -33,69 +36,133 @@ pub struct Difference {
     pub wrong: Wrong,
 }
 
-/// How many inputs had each outcome.
+/// How often each outcome was met, and how many tables had records of the kinds that may be absent.
 #[derive(Debug, Default)]
 pub struct Tally {
     pub found: u64,
     pub none: u64,
-    pub complete: u64,
     pub cut: u64,
+    /// Complete with places left, and with none left.
+    pub complete: u64,
+    pub complete_and_full: u64,
     pub conflicts: u64,
     pub refused: u64,
+    pub with_co_resident: u64,
+    pub with_exclusive: u64,
+    pub with_messages: u64,
 }
 
 impl Tally {
-    pub fn counts(&self) -> [u64; 6] {
-        [self.found, self.none, self.complete, self.cut, self.conflicts, self.refused]
+    pub fn answers(&self) -> u64 {
+        self.found + self.none
+    }
+
+    /// The outcome or kind that was met least often.
+    pub fn least(&self) -> u64 {
+        let answers = [self.found, self.none, self.cut, self.complete, self.complete_and_full];
+        let kinds = [self.with_co_resident, self.with_exclusive, self.with_messages];
+        answers.into_iter().chain(kinds).chain([self.conflicts]).min().unwrap_or(0)
+    }
+
+    fn note_table(&mut self, table: &Table) {
+        self.with_co_resident += u64::from(!table.co_resident.is_empty());
+        self.with_exclusive += u64::from(!table.exclusive.is_empty());
+        self.with_messages += u64::from(!table.messages.is_empty());
+    }
+
+    fn note(&mut self, truth: &dyn Truth, buffer: usize, listing: &Listing) {
+        let found = truth.first().is_some();
+        let full = listing.conflicts.len() == places(truth.table(), buffer);
+        self.found += u64::from(found);
+        self.none += u64::from(!found);
+        self.cut += u64::from(!listing.complete);
+        self.complete += u64::from(listing.complete && !full);
+        self.complete_and_full += u64::from(listing.complete && full);
+        self.conflicts += listing.conflicts.len() as u64;
     }
 }
 
+const TOO_SHORT: Refusal = Refusal { cause: Cause::BufferTooShort, place: 0 };
+
+/// As long as the buffer that the program gives the search.
+const PROGRAMS_BUFFER: usize = 16_384;
+
 struct Comparison<'a> {
     candidate: Search<'a>,
+    /// For the bytes of the buffers. The tables have their own, so that a seed gives every candidate the
+    /// same ones, however long its answers are.
     random: Random,
     tally: Tally,
 }
 
-/// Searches so many small tables, each with several lengths of the buffer.
-pub fn compare(seed: u64, tables: usize, candidate: Search) -> Result<Tally, Difference> {
-    let mut comparison = Comparison { candidate, random: Random::new(seed), tally: Tally::default() };
+/// Searches so many small tables with every length of the buffer, and as many files that are refused.
+pub fn compare_small(seed: u64, tables: usize, candidate: Search) -> Result<Tally, Difference> {
+    let mut random = Random::new(seed);
+    let mut comparison = Comparison::new(seed, candidate);
     let meetings = all_meetings();
     for _ in 0..tables {
-        let table = small_table(&mut comparison.random);
-        comparison.table(&table)?;
-        let meeting = &meetings[comparison.random.below(meetings.len())];
-        let (unreadable, refusal) = meeting.file(&mut comparison.random);
-        let length = comparison.random.below(60);
-        comparison.refused(&unreadable, length, refusal)?;
+        comparison.every_length(&small_table(&mut random))?;
+        let meeting = &meetings[random.below(meetings.len())];
+        let (unreadable, refusal) = meeting.file(&mut random);
+        comparison.refused(&unreadable, random.below(60), refusal)?;
+    }
+    Ok(comparison.tally)
+}
+
+/// Searches so many medium tables, each with some lengths of the buffer.
+pub fn compare_medium(seed: u64, tables: usize, candidate: Search) -> Result<Tally, Difference> {
+    let mut random = Random::new(seed);
+    let mut comparison = Comparison::new(seed, candidate);
+    for _ in 0..tables {
+        comparison.some_lengths(&medium_table(&mut random))?;
     }
     Ok(comparison.tally)
 }
 
 impl Comparison<'_> {
-    /// Buffers that are too short, with few places and with more than enough, and with bytes over.
-    fn table(&mut self, table: &Table) -> Result<(), Difference> {
-        let file = encode(table);
-        let truth = Truth::of(table);
-        let shortest = shortest_answer(table);
-        for places in [0, 1, 2, self.random.below(8), 300] {
-            let buffer = shortest + 6 * places + self.random.below(6);
-            self.answered(&file, buffer, &truth)?;
-        }
-        let too_short = Refusal { cause: Cause::BufferTooShort, place: 0 };
-        let length = self.random.below(shortest);
-        self.refused(&file, shortest - 1, too_short)?;
-        self.refused(&file, length, too_short)
+    fn new(seed: u64, candidate: Search) -> Comparison {
+        Comparison { candidate, random: Random::new(!seed), tally: Tally::default() }
     }
 
-    fn answered(&mut self, file: &[u8], buffer: usize, truth: &Truth) -> Result<(), Difference> {
-        let (before, after, found) = self.search(file, buffer);
-        let wrong = match found {
-            Ok(count) => truth.check(&before, &after, count).map_err(Wrong::Answer),
-            Err(_) => Err(Wrong::Refusal { expected: None, found }),
-        };
-        wrong.map_err(|wrong| Difference { file: file.to_vec(), buffer, wrong })?;
-        self.note(truth, &after, found.unwrap_or(0));
+    /// From no byte to the first length with three places more than the answer needs.
+    fn every_length(&mut self, table: &Table) -> Result<(), Difference> {
+        let file = encode(table);
+        let truth = Enumerated::of(table);
+        let mut checker = Checker::new(&truth);
+        self.tally.note_table(table);
+        let mut buffer = shortest_answer(table);
+        (0..buffer).try_for_each(|too_short| self.refused(&file, too_short, TOO_SHORT))?;
+        while buffer < self.answered(&file, buffer, &mut checker)? + 3 * 6 {
+            buffer += 1;
+        }
         Ok(())
+    }
+
+    /// The program's buffer, no place, few, one too few, just enough and one too many.
+    fn some_lengths(&mut self, table: &Table) -> Result<(), Difference> {
+        let file = encode(table);
+        let truth = Pruned::of(table);
+        let mut checker = Checker::new(&truth);
+        self.tally.note_table(table);
+        let needed = places(table, self.answered(&file, PROGRAMS_BUFFER, &mut checker)?);
+        for places in [0, 1, needed / 2, needed.saturating_sub(1), needed, needed + 1] {
+            let buffer = shortest_answer(table) + 6 * places + self.random.below(6);
+            self.answered(&file, buffer, &mut checker)?;
+        }
+        Ok(())
+    }
+
+    /// Checks the answer; what comes back is its length.
+    fn answered(&mut self, file: &[u8], buffer: usize, checker: &mut Checker) -> Answered {
+        let difference = |wrong| Difference { file: file.to_vec(), buffer, wrong };
+        let (before, after, found) = self.search(file, buffer);
+        let Ok(count) = found else {
+            return Err(difference(Wrong::Refusal { expected: None, found }));
+        };
+        let listing =
+            checker.check(&before, &after, count).map_err(|fault| difference(Wrong::Answer(fault)))?;
+        self.tally.note(checker.truth, buffer, &listing);
+        Ok(count)
     }
 
     fn refused(&mut self, file: &[u8], buffer: usize, refusal: Refusal) -> Result<(), Difference> {
@@ -118,24 +185,26 @@ impl Comparison<'_> {
         let answer = (self.candidate)(file, &mut after);
         (before, after, answer)
     }
+}
 
-    fn note(&mut self, truth: &Truth, answer: &[u8], count: usize) {
-        let complete = answer[count - 1] == 1;
-        self.tally.found += u64::from(truth.has_placement());
-        self.tally.none += u64::from(!truth.has_placement());
-        self.tally.complete += u64::from(complete);
-        self.tally.cut += u64::from(!complete);
-        self.tally.conflicts += truth.listed(count) as u64;
-    }
+type Answered = Result<usize, Difference>;
+
+/// The table of a search that is not refused.
+fn searched_table(file: &[u8], buffer: usize) -> Result<Table, Refusal> {
+    let table = read(file)?;
+    if buffer < shortest_answer(&table) { Err(TOO_SHORT) } else { Ok(table) }
 }
 
 /// The search by trying all placements, refusals included.
 pub fn search_all(file: &[u8], buffer: &mut [u8]) -> Answer {
-    let table = read(file)?;
-    if buffer.len() < shortest_answer(&table) {
-        return Err(Refusal { cause: Cause::BufferTooShort, place: 0 });
-    }
-    Ok(Truth::of(&table).answer(buffer))
+    let table = searched_table(file, buffer.len())?;
+    Ok(answer(&Enumerated::of(&table), buffer))
+}
+
+/// The search by the pruned one, refusals included.
+pub fn search_pruned(file: &[u8], buffer: &mut [u8]) -> Answer {
+    let table = searched_table(file, buffer.len())?;
+    Ok(answer(&Pruned::of(&table), buffer))
 }
 
 #[cfg(test)]
@@ -146,7 +215,15 @@ mod tests {
 
     /// An answer with this fault must be found where the wrong search writes it.
     fn detected(what: &str, fault: Fault, wrong: Search) {
-        match compare(10, 2_000, wrong) {
+        has_found(what, fault, compare_small(10, 2_000, wrong));
+    }
+
+    fn detected_in_medium(what: &str, fault: Fault, wrong: Search) {
+        has_found(what, fault, compare_medium(10, 50, wrong));
+    }
+
+    fn has_found(what: &str, fault: Fault, result: Result<Tally, Difference>) {
+        match result {
             Err(Difference { wrong: Wrong::Answer(found), .. }) => assert_eq!(found, fault, "{what}"),
             other => panic!("{what}: {other:?}"),
         }
@@ -168,15 +245,18 @@ mod tests {
     }
 
     fn refused_wrongly(what: &str, wrong: Search) {
-        let found = compare(10, 100, wrong);
+        let found = compare_small(10, 100, wrong);
         let refusal = matches!(found, Err(Difference { wrong: Wrong::Refusal { .. } | Wrong::Written, .. }));
         assert!(refusal, "{what}: {found:?}");
     }
 
     #[test]
-    fn the_search_of_all_is_not_suspected_itself() {
-        let tally = compare(10, 2_000, &search_all).unwrap_or_else(|difference| panic!("{difference:?}"));
-        assert!(tally.counts().iter().all(|&count| count > 1_000), "{tally:?}");
+    fn the_independent_searches_are_not_suspected_themselves() {
+        let small = compare_small(10, 300, &search_all).unwrap_or_else(|difference| panic!("{difference:?}"));
+        assert!(small.least() >= 30 && small.refused >= 1_000, "{small:?}");
+        let medium =
+            compare_medium(10, 20, &search_pruned).unwrap_or_else(|difference| panic!("{difference:?}"));
+        assert!(medium.least() >= 3, "{medium:?}");
     }
 
     #[test]
@@ -192,6 +272,21 @@ mod tests {
             buffer[2..2 + table.tasks.len()].reverse();
             count
         });
+        detected("processors in falling number", Fault::Head, &|file, buffer| {
+            let mut table = read(file)?;
+            reverse_processors(&mut table);
+            let count = search_all(&encode(&table), buffer)?;
+            let last = table.processors.len() as u8 - 1;
+            let placed = buffer.starts_with(b"AL").then_some(&mut buffer[2..2 + table.tasks.len()]);
+            placed.into_iter().flatten().for_each(|processor| *processor = last - *processor);
+            Ok(count)
+        });
+    }
+
+    fn reverse_processors(table: &mut Table) {
+        let unused = 16 - table.processors.len();
+        table.processors.reverse();
+        table.tasks.iter_mut().for_each(|task| task.residence = task.residence.reverse_bits() >> unused);
     }
 
     #[test]
@@ -202,15 +297,25 @@ mod tests {
                 count
             });
         }
+        detected_change("cut whenever the list is full", Fault::Mark, &|_, buffer, count| {
+            buffer[count - 1] &= u8::from(count + 6 <= buffer.len());
+            count
+        });
+        detected_change("cut as soon as a conflict finds no place", Fault::Mark, &|table, buffer, count| {
+            let (truth, listed) = (Enumerated::of(table), listed(table, &buffer[..count]));
+            let unlisted = |mask: u32| !listed.contains(&mask) && truth.is_held(mask);
+            if count + 6 > buffer.len() && minimal_conflicts(table).any(unlisted) {
+                buffer[count - 1] = 0;
+            }
+            count
+        });
         detected("no conflicts, called complete", Fault::Mark, &|file, buffer| {
-            let shortest = shortest_answer(&read(file)?).min(buffer.len());
-            let count = search_all(file, &mut buffer[..shortest])?;
+            let count = without_conflicts(&search_all, file, buffer)?;
             buffer[count - 1] = 1;
             Ok(count)
         });
         detected("cut with free places", Fault::CutWithPlaces, &|file, buffer| {
-            let shortest = shortest_answer(&read(file)?).min(buffer.len());
-            search_all(file, &mut buffer[..shortest])
+            without_conflicts(&search_all, file, buffer)
         });
         detected_change("neither complete nor cut", Fault::Layout, &|_, buffer, count| {
             buffer[count - 1] += 2;
@@ -218,10 +323,49 @@ mod tests {
         });
     }
 
+    fn listed(table: &Table, answer: &[u8]) -> Vec<u32> {
+        let records = answer[table.tasks.len() + 2..answer.len() - 3].chunks(6);
+        records.map(|record| u32::from_le_bytes([record[2], record[3], record[4], record[5]])).collect()
+    }
+
+    fn minimal_conflicts(table: &Table) -> impl Iterator<Item = u32> {
+        let file = encode(table);
+        (1..1 << table.tasks.len()).filter(move |&mask| conflict_code(&file, mask) == 2)
+    }
+
+    /// Searches as if there were no place.
+    fn without_conflicts(search: Search, file: &[u8], buffer: &mut [u8]) -> Answer {
+        let shortest = shortest_answer(&read(file)?).min(buffer.len());
+        search(file, &mut buffer[..shortest])
+    }
+
+    /// The checks are those of small tables; what differs is how the truth is found.
+    #[test]
+    fn wrong_answers_for_medium_tables_are_detected() {
+        detected_in_medium("cut with free places", Fault::CutWithPlaces, &|file, buffer| {
+            without_conflicts(&search_pruned, file, buffer)
+        });
+        for mark in [0, 1] {
+            detected_in_medium("always the same mark", Fault::Mark, &|file, buffer| {
+                let count = search_pruned(file, buffer)?;
+                buffer[count - 1] = mark;
+                Ok(count)
+            });
+        }
+        detected_in_medium("the last task elsewhere", Fault::Head, &|file, buffer| {
+            let count = search_pruned(file, buffer)?;
+            buffer[shortest_answer(&read(file)?) - 4] ^= 1;
+            Ok(count)
+        });
+    }
+
     #[test]
     fn wrong_counts_and_bytes_are_detected() {
         detected_change("one byte less", Fault::Count, &|_, _, count| count - 1);
         detected_change("the whole buffer", Fault::Count, &|_, buffer, _| buffer.len());
+        detected_change("more than the buffer", Fault::Count, &|_, buffer, count| {
+            buffer.len() + 6 + count % 6
+        });
         detected_change("a conflict's length more", Fault::Layout, &|_, buffer, count| {
             if count + 6 <= buffer.len() { count + 6 } else { count }
         });
@@ -248,16 +392,19 @@ mod tests {
         count + 6
     }
 
+    /// Puts in the first minimal conflict that passes the test.
+    fn detected_conflict(what: &str, fault: Fault, test: &dyn Fn(&Table, u32) -> bool) {
+        detected_change(what, fault, &|table, buffer, count| {
+            let added = minimal_conflicts(table).find(|&mask| test(table, mask));
+            added.map_or(count, |mask| add_conflict(buffer, count, mask))
+        });
+    }
+
     #[test]
     fn wrong_conflicts_are_detected() {
         detected_change("the first again", Fault::Repeated, &|table, buffer, count| {
-            let mark = table.tasks.len() + 2;
-            if count == shortest_answer(table) {
-                return count;
-            }
-            let first =
-                u32::from_le_bytes([buffer[mark + 2], buffer[mark + 3], buffer[mark + 4], buffer[mark + 5]]);
-            add_conflict(buffer, count, first)
+            let first = listed(table, &buffer[..count]).first().copied();
+            first.map_or(count, |mask| add_conflict(buffer, count, mask))
         });
         detected_change("a task too many", Fault::NotMinimal, &|table, buffer, count| {
             let all = (1 << table.tasks.len()) - 1;
@@ -266,11 +413,15 @@ mod tests {
         detected_change("an unknown task", Fault::NotMinimal, &|_, buffer, count| {
             add_conflict(buffer, count, 1 << 31)
         });
-        detected_change("no common residence", Fault::NotHeld, &|table, buffer, count| {
-            let common =
-                |mask: u32| members(mask).fold(u16::MAX, |all, task| all & table.tasks[task].residence);
-            let unheld = |&mask: &u32| common(mask) == 0 && conflict_code(&encode(table), mask) == 2;
-            (1..1 << table.tasks.len()).find(unheld).map_or(count, |mask| add_conflict(buffer, count, mask))
+        detected_change("a set in time", Fault::NotMinimal, &|_, buffer, count| {
+            add_conflict(buffer, count, 1)
+        });
+        let common = |table: &Table, mask: u32| {
+            members(mask).fold(u16::MAX, |all, task| all & table.tasks[task].residence)
+        };
+        detected_conflict("no common residence", Fault::NotHeld, &|table, mask| common(table, mask) == 0);
+        detected_conflict("behind the answer", Fault::NotHeld, &|table, mask| {
+            common(table, mask) != 0 && !Enumerated::of(table).is_held(mask)
         });
     }
 
@@ -278,13 +429,11 @@ mod tests {
     fn wrong_refusals_are_detected() {
         refused_wrongly("refuses all", &|_, _| Err(Refusal { cause: Cause::Cut, place: 0 }));
         refused_wrongly("a byte more asked for", &|file, buffer| match read(file) {
-            Ok(table) if buffer.len() == shortest_answer(&table) => {
-                Err(Refusal { cause: Cause::BufferTooShort, place: 0 })
-            }
+            Ok(table) if buffer.len() == shortest_answer(&table) => Err(TOO_SHORT),
             _ => search_all(file, buffer),
         });
         refused_wrongly("the buffer before the file", &|file, buffer| match buffer.len() {
-            0..6 => Err(Refusal { cause: Cause::BufferTooShort, place: 0 }),
+            0..6 => Err(TOO_SHORT),
             _ => search_all(file, buffer),
         });
         refused_wrongly("cleared before it is refused", &|file, buffer| {
@@ -293,6 +442,46 @@ mod tests {
                 buffer.fill(0);
             }
             answer
+        });
+    }
+
+    /// The right search of a table that was read wrongly.
+    fn detected_table(what: &str, change: &dyn Fn(&mut Table)) {
+        let found = compare_small(10, 500, &|file, buffer| {
+            let mut table = read(file)?;
+            change(&mut table);
+            search_all(&encode(&table), buffer)
+        });
+        assert!(matches!(found, Err(Difference { wrong: Wrong::Answer(_), .. })), "{what}: {found:?}");
+    }
+
+    #[test]
+    fn misread_tables_are_detected() {
+        detected_table("last co-residence overlooked", &|table| {
+            table.co_resident.pop();
+        });
+        detected_table("last exclusion overlooked", &|table| {
+            table.exclusive.pop();
+        });
+        detected_table("last message overlooked", &|table| {
+            table.messages.pop();
+        });
+        detected_table("residence of the last task overlooked", &|table| {
+            table.tasks.last_mut().expect("a task").residence = (1 << table.processors.len()) - 1;
+        });
+        detected_table("memory one more", &|table| {
+            let each = table.processors.iter_mut();
+            each.for_each(|processor| processor.memory = processor.memory.saturating_add(1));
+        });
+        detected_table("no limit", &|table| {
+            table.processors.iter_mut().for_each(|processor| processor.limit = 1000);
+        });
+        detected_table("capacity one more", &|table| table.capacity += 1);
+        detected_table("deadlines at the periods", &|table| {
+            table.tasks.iter_mut().for_each(|task| task.deadline = task.period);
+        });
+        detected_table("priorities the other way", &|table| {
+            table.tasks.iter_mut().for_each(|task| task.priority = !task.priority);
         });
     }
 }

@@ -1,7 +1,7 @@
 //! Random inputs, the same for the same seed.
 
 pub mod around;
+pub mod crowded;
 pub mod faulty;
 pub mod sets;
-pub mod small;
 pub mod tables;

@@ -1,0 +1,69 @@
+//! The truth by trying all placements in their order.
+
+use super::{Truth, holds};
+use crate::judge::{Placed, Rule};
+use crate::model::Table;
+use crate::schedule::late;
+
+/// A placement before the first that keeps residence.
+struct Earlier {
+    /// The tasks on each processor.
+    sets: Vec<u32>,
+    keeps_rules: bool,
+}
+
+pub struct Enumerated<'a> {
+    table: &'a Table,
+    first: Option<Vec<u8>>,
+    earlier: Vec<Earlier>,
+}
+
+impl Enumerated<'_> {
+    /// Runs through up to m^n placements, so it is for small tables alone.
+    pub fn of(table: &Table) -> Enumerated<'_> {
+        let mut truth = Enumerated { table, first: None, earlier: Vec::new() };
+        let mut placement = Some(vec![0; table.tasks.len()]);
+        while let Some(current) = placement {
+            let placed = Placed { table, placement: &current };
+            let sets: Vec<u32> = (0..table.processors.len()).map(|processor| placed.on(processor)).collect();
+            let keeps_rules = placed.keeps_rules();
+            if keeps_rules && !sets.iter().any(|&set| late(&table.tasks, set)) {
+                truth.first = Some(current);
+                break;
+            }
+            if placed.keeps(Rule::Residence) {
+                truth.earlier.push(Earlier { sets, keeps_rules });
+            }
+            placement = next_placement(current, table.processors.len());
+        }
+        truth
+    }
+}
+
+impl Truth for Enumerated<'_> {
+    fn table(&self) -> &Table {
+        self.table
+    }
+
+    fn first(&self) -> Option<&[u8]> {
+        self.first.as_deref()
+    }
+
+    fn is_held(&self, conflict: u32) -> bool {
+        self.earlier.iter().any(|earlier| holds(&earlier.sets, conflict))
+    }
+
+    fn uncovered(&self, conflicts: &[u32]) -> Option<Vec<u32>> {
+        let holds_none = |sets: &[u32]| !conflicts.iter().any(|&conflict| holds(sets, conflict));
+        let open = self.earlier.iter().find(|earlier| earlier.keeps_rules && holds_none(&earlier.sets));
+        open.map(|earlier| earlier.sets.clone())
+    }
+}
+
+/// The next placement in the order in which task 0 weighs most.
+fn next_placement(mut placement: Vec<u8>, processors: usize) -> Option<Vec<u8>> {
+    let task = placement.iter().rposition(|&processor| usize::from(processor) + 1 < processors)?;
+    placement[task] += 1;
+    placement[task + 1..].fill(0);
+    Some(placement)
+}

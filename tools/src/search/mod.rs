@@ -1,0 +1,77 @@
+//! What 01 "The search answer" fixes for one table, twice over, and an answer of our own.
+//!
+//! - `enumerated`: by trying all placements, for small tables;
+//! - `pruned`: by a search that leaves out what cannot be completed, for larger ones;
+//! - `checker`: a check of any answer by one of the two.
+
+pub mod checker;
+pub mod enumerated;
+pub mod pruned;
+
+use crate::conflict::minimal_part;
+use crate::model::Table;
+use crate::schedule::late;
+
+/// The bytes of an answer beside its conflicts: the head's mark, the tasks, the end's mark and byte.
+pub fn shortest_answer(table: &Table) -> usize {
+    table.tasks.len() + 5
+}
+
+/// How many conflicts a buffer has places for.
+pub fn places(table: &Table, buffer: usize) -> usize {
+    (buffer - shortest_answer(table)) / 6
+}
+
+/// Whether all tasks of the conflict stand on one processor. The sets are those of the processors.
+fn holds(sets: &[u32], conflict: u32) -> bool {
+    sets.iter().any(|set| conflict & !set == 0)
+}
+
+/// What decides whether a search answer is right. "Earlier" means before the first placement; where
+/// there is none, every placement is earlier.
+pub trait Truth {
+    fn table(&self) -> &Table;
+
+    /// The first placement that keeps the rules and has no late job.
+    fn first(&self) -> Option<&[u8]>;
+
+    /// Whether an earlier placement that keeps residence holds this conflict.
+    fn is_held(&self, conflict: u32) -> bool;
+
+    /// Some earlier placement that keeps the rules and holds none of these conflicts: the tasks on
+    /// each processor.
+    fn uncovered(&self, conflicts: &[u32]) -> Option<Vec<u32>>;
+}
+
+fn head(truth: &dyn Truth) -> Vec<u8> {
+    let nowhere = vec![255; truth.table().tasks.len()];
+    match truth.first() {
+        Some(placement) => [b"AL", placement].concat(),
+        None => [b"NO", nowhere.as_slice()].concat(),
+    }
+}
+
+/// An answer of our own: as long as there is a place, a conflict for some earlier placement that
+/// holds none yet. The buffer is long enough.
+pub fn answer(truth: &dyn Truth, buffer: &mut [u8]) -> usize {
+    let table = truth.table();
+    let mut conflicts: Vec<u32> = Vec::new();
+    let mut open = truth.uncovered(&conflicts);
+    while let Some(sets) = &open
+        && conflicts.len() < places(table, buffer.len())
+    {
+        conflicts.push(some_conflict(table, sets));
+        open = truth.uncovered(&conflicts);
+    }
+    let records = conflicts.iter().map(|conflict| [b"NG", conflict.to_le_bytes().as_slice()].concat());
+    let end = [b'E', b'N', u8::from(open.is_none())];
+    let answer = [head(truth), records.collect::<Vec<_>>().concat(), end.to_vec()].concat();
+    buffer[..answer.len()].copy_from_slice(&answer);
+    answer.len()
+}
+
+/// A minimal part of the first late set.
+fn some_conflict(table: &Table, sets: &[u32]) -> u32 {
+    let late_set = sets.iter().copied().find(|&set| late(&table.tasks, set));
+    minimal_part(&table.tasks, late_set.expect("an earlier placement that keeps the rules has a late job"))
+}

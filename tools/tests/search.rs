@@ -1,0 +1,92 @@
+//! The search: the tool's answers checked, on small tables by trying all placements, on medium ones by
+//! an independent search.
+
+use tools::comparison::searching::{Tally, compare_medium, compare_small};
+use tools::examples::{processor, reading, searching, task};
+use tools::file::File;
+use tools::model::{Cause, Refusal, Task};
+use tools::tool;
+
+/// 01 "The program": `NT` 5, two `PR` 100 1000, three `TK`, with a buffer of 16,384 zero bytes.
+fn of_the_program() -> File {
+    let anywhere = |task: Task| Task { residence: 3, ..task };
+    File::new()
+        .network(5)
+        .processor(processor(100, 1000))
+        .processor(processor(100, 1000))
+        .task(anywhere(task(1, 4, 4, 30)))
+        .task(anywhere(task(2, 6, 6, 20)))
+        .task(anywhere(task(3, 12, 9, 10)))
+}
+
+/// Found: 0 and 1 on processor 0, 2 on 1. One conflict, 0 1 2. Complete. 3 + 5 + 6 = 14 bytes.
+#[test]
+fn the_programs_example() {
+    let mut answer = [0; 16_384];
+    assert_eq!(tool::search(&of_the_program().bytes, &mut answer), Ok(14));
+    assert_eq!(answer[..5], [0x41, 0x4C, 0, 0, 1]);
+    assert_eq!(answer[5..11], [0x4E, 0x47, 0b111, 0, 0, 0]);
+    assert_eq!(answer[11..14], [0x45, 0x4E, 1]);
+    assert!(answer[14..].iter().all(|&byte| byte == 0));
+}
+
+#[test]
+fn examples_worked_by_hand() {
+    for example in searching::all() {
+        let mut buffer = vec![9; example.buffer];
+        let count = tool::search(&example.file(), &mut buffer).expect("an answer");
+        let (answer, behind) = buffer.split_at(count);
+        assert!(example.answers.contains(&answer.to_vec()), "{}: {answer:?}", example.what);
+        assert!(behind.iter().all(|&byte| byte == 9), "{}", example.what);
+    }
+}
+
+/// Refusals 1 to 11, whatever the buffer's length.
+#[test]
+fn files_that_are_refused() {
+    for example in reading::all().into_iter().filter(|example| example.number != 0) {
+        for length in [0, 5, 6, 29, 100] {
+            let mut buffer = vec![9; length];
+            let refusal = tool::search(&example.file.bytes, &mut buffer).expect_err(example.what);
+            assert_eq!(refusal.code(), example.number << 32 | example.place, "{}", example.what);
+            assert!(buffer.iter().all(|&byte| byte == 9), "{}", example.what);
+        }
+    }
+}
+
+/// Refusal 12: three tasks need 8 bytes, one needs 6.
+#[test]
+fn buffers_that_are_too_short() {
+    let too_short = Err(Refusal { cause: Cause::BufferTooShort, place: 0 });
+    let one = File::new().network(0).processor(processor(10, 1000)).task(task(1, 4, 4, 1));
+    for (file, shortest) in [(of_the_program(), 8), (one, 6)] {
+        for length in 0..shortest {
+            let mut buffer = vec![9; length];
+            assert_eq!(tool::search(&file.bytes, &mut buffer), too_short);
+            assert!(buffer.iter().all(|&byte| byte == 9), "{length}");
+        }
+        assert_eq!(tool::search(&file.bytes, &mut vec![9; shortest]), Ok(shortest));
+    }
+}
+
+fn show(seed: u64, tally: &Tally) {
+    println!("seed {seed}: {} answers, {tally:?}", tally.answers());
+}
+
+#[test]
+fn small_tables_with_every_length_of_the_buffer() {
+    let seed = 0x7365_6172_6368;
+    let tally =
+        compare_small(seed, 20_000, &tool::search).unwrap_or_else(|difference| panic!("{difference:?}"));
+    show(seed, &tally);
+    assert!(tally.least() >= 1_000 && tally.refused >= 100_000, "an outcome that hardly occurs: {tally:?}");
+}
+
+#[test]
+fn medium_tables() {
+    let seed = 0x6D65_6469_756D;
+    let tally =
+        compare_medium(seed, 500, &tool::search).unwrap_or_else(|difference| panic!("{difference:?}"));
+    show(seed, &tally);
+    assert!(tally.least() >= 50, "an outcome that hardly occurs: {tally:?}");
+}
