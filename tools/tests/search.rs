@@ -1,29 +1,19 @@
 //! The search: the tool's answers checked, on small tables by trying all placements, on medium ones by
 //! an independent search.
 
-use tools::comparison::searching::{Tally, compare_medium, compare_small};
-use tools::examples::{processor, reading, searching, task};
-use tools::file::File;
-use tools::model::{Cause, Refusal, Task};
+use tools::comparison::searching::{Difference, Tally, compare_medium, compare_small};
+use tools::examples::{reading, searching, task};
+use tools::file::encode;
+use tools::generate::sets::free_table;
+use tools::model::{Cause, Refusal};
 use tools::tool;
 
-/// 01 "The program": `NT` 5, two `PR` 100 1000, three `TK`, with a buffer of 16,384 zero bytes.
-fn of_the_program() -> File {
-    let anywhere = |task: Task| Task { residence: 3, ..task };
-    File::new()
-        .network(5)
-        .processor(processor(100, 1000))
-        .processor(processor(100, 1000))
-        .task(anywhere(task(1, 4, 4, 30)))
-        .task(anywhere(task(2, 6, 6, 20)))
-        .task(anywhere(task(3, 12, 9, 10)))
-}
-
-/// Found: 0 and 1 on processor 0, 2 on 1. One conflict, 0 1 2. Complete. 3 + 5 + 6 = 14 bytes.
+/// 01 "The program", with its buffer of zero bytes. Found: 0 and 1 on processor 0, 2 on 1. One conflict,
+/// 0 1 2. Complete. 3 + 5 + 6 = 14 bytes.
 #[test]
 fn the_programs_example() {
     let mut answer = [0; 16_384];
-    assert_eq!(tool::search(&of_the_program().bytes, &mut answer), Ok(14));
+    assert_eq!(tool::search(&encode(&searching::three()), &mut answer), Ok(14));
     assert_eq!(answer[..5], [0x41, 0x4C, 0, 0, 1]);
     assert_eq!(answer[5..11], [0x4E, 0x47, 0b111, 0, 0, 0]);
     assert_eq!(answer[11..14], [0x45, 0x4E, 1]);
@@ -54,39 +44,38 @@ fn files_that_are_refused() {
     }
 }
 
-/// Refusal 12: three tasks need 8 bytes, one needs 6.
+/// Refusal 12: three tasks need 8 bytes, 24 need 29.
 #[test]
 fn buffers_that_are_too_short() {
     let too_short = Err(Refusal { cause: Cause::BufferTooShort, place: 0 });
-    let one = File::new().network(0).processor(processor(10, 1000)).task(task(1, 4, 4, 1));
-    for (file, shortest) in [(of_the_program(), 8), (one, 6)] {
+    let many = free_table((0..24).map(|priority| task(1, 24, 24, priority)).collect(), 1);
+    for (table, shortest) in [(searching::three(), 8), (many, 29)] {
+        let file = encode(&table);
         for length in 0..shortest {
             let mut buffer = vec![9; length];
-            assert_eq!(tool::search(&file.bytes, &mut buffer), too_short);
+            assert_eq!(tool::search(&file, &mut buffer), too_short);
             assert!(buffer.iter().all(|&byte| byte == 9), "{length}");
         }
-        assert_eq!(tool::search(&file.bytes, &mut vec![9; shortest]), Ok(shortest));
+        assert_eq!(tool::search(&file, &mut vec![9; shortest]), Ok(shortest));
     }
 }
 
-fn show(seed: u64, tally: &Tally) {
+fn passed(seed: u64, compared: Result<Tally, Difference>) -> Tally {
+    let tally = compared.unwrap_or_else(|difference| panic!("{difference:?}"));
     println!("seed {seed}: {} answers, {tally:?}", tally.answers());
+    tally
 }
 
 #[test]
 fn small_tables_with_every_length_of_the_buffer() {
     let seed = 0x7365_6172_6368;
-    let tally =
-        compare_small(seed, 20_000, &tool::search).unwrap_or_else(|difference| panic!("{difference:?}"));
-    show(seed, &tally);
+    let tally = passed(seed, compare_small(seed, 20_000, &tool::search));
     assert!(tally.least() >= 1_000 && tally.refused >= 100_000, "an outcome that hardly occurs: {tally:?}");
 }
 
 #[test]
 fn medium_tables() {
     let seed = 0x6D65_6469_756D;
-    let tally =
-        compare_medium(seed, 500, &tool::search).unwrap_or_else(|difference| panic!("{difference:?}"));
-    show(seed, &tally);
-    assert!(tally.least() >= 50, "an outcome that hardly occurs: {tally:?}");
+    let tally = passed(seed, compare_medium(seed, 500, &tool::search));
+    assert!(tally.least() >= 100, "an outcome that hardly occurs: {tally:?}");
 }

@@ -1,10 +1,14 @@
-//! Times of the tool beside those of plain Rust, and of its search. Nothing is asserted: the numbers are for reading.
+//! Times of the tool beside those of plain Rust, then its searches of the tables in tables/. Nothing is
+//! asserted: the numbers are for reading.
+//!
+//!     benchmark [seconds]      how long one search may take, 5 if not said
 
+use std::fs;
 use std::hint::black_box;
-use std::path::Path;
-use std::process::Command;
+use std::path::{Path, PathBuf};
+use std::process::{Child, Command, ExitStatus};
+use std::thread::sleep;
 use std::time::{Duration, Instant};
-use std::{env, fs, thread};
 use tools::examples::task;
 use tools::file::encode;
 use tools::generate::sets::free_table;
@@ -13,59 +17,27 @@ use tools::judge::judge_number;
 use tools::model::Task;
 use tools::random::Random;
 use tools::schedule::late;
+use tools::search::places;
 use tools::{reader, tool};
 
 const ROUNDS: usize = 9;
 const CALLS: usize = 20_000;
+const SECONDS: u64 = 5;
 
-/// How long a search may take before it is stopped.
-const LIMIT: Duration = Duration::from_secs(5);
+/// What this program is called with to search one table itself.
+const SEARCH: &str = "--search";
 
 fn main() {
-    if let Some(path) = env::args().nth(1) {
-        return search(Path::new(&path));
+    let arguments: Vec<String> = std::env::args().skip(1).collect();
+    match arguments.iter().map(String::as_str).collect::<Vec<_>>()[..] {
+        [] => everything(SECONDS),
+        [SEARCH, file] => search(Path::new(file)),
+        [seconds] => everything(seconds.parse().expect("a number of seconds")),
+        _ => eprintln!("usage: benchmark [seconds]"),
     }
-    compared();
-    let folder = Path::new(env!("CARGO_MANIFEST_DIR")).join("tables");
-    let entries = fs::read_dir(folder).expect("the tables");
-    let mut tables: Vec<_> = entries.map(|entry| entry.expect("a table").path()).collect();
-    tables.sort();
-    tables.iter().for_each(|table| search_within_limit(table));
 }
 
-/// Searches in a process of its own, so that one that takes too long can be stopped.
-fn search_within_limit(table: &Path) {
-    let program = env::current_exe().expect("this program");
-    let mut child = Command::new(program).arg(table).spawn().expect("a process");
-    let start = Instant::now();
-    while start.elapsed() < LIMIT {
-        if child.try_wait().expect("its state").is_some() {
-            return;
-        }
-        thread::sleep(Duration::from_millis(1));
-    }
-    child.kill().and_then(|()| child.wait()).expect("it stops");
-    println!("search {}: stopped after {LIMIT:?}", name(table));
-}
-
-/// The answer to a table, with the program's buffer: how many conflicts are listed, the mark, the time.
-fn search(path: &Path) {
-    let file = fs::read(path).expect("a table");
-    let tasks = reader::read(&file).expect("a readable table").tasks.len();
-    let mut answer = [0; 16_384];
-    let start = Instant::now();
-    let count = tool::search(&file, &mut answer).expect("an answer");
-    let time = start.elapsed();
-    let head = if answer.starts_with(b"AL") { "found" } else { "none" };
-    let mark = if answer[count - 1] == 1 { "complete" } else { "cut" };
-    println!("search {}: {head}, {} conflicts, {mark}, {time:.1?}", name(path), (count - tasks - 5) / 6);
-}
-
-fn name(table: &Path) -> String {
-    table.file_stem().map_or_else(String::new, |stem| stem.to_string_lossy().into_owned())
-}
-
-fn compared() {
+fn everything(seconds: u64) {
     let file = encode(&table(&mut Random::new(1), Shape::FULL));
     let row = format!("read a file of {} bytes", file.len());
     beside(&row, &|| tool::read(black_box(&file)), &|| reader::read_code(black_box(&file)));
@@ -76,6 +48,61 @@ fn compared() {
     for count in [2, 6, 12, 24] {
         lateness(count);
     }
+    for file in tables() {
+        search_in_time(&file, Duration::from_secs(seconds));
+    }
+}
+
+fn tables() -> Vec<PathBuf> {
+    let folder = Path::new(env!("CARGO_MANIFEST_DIR")).join("tables");
+    let entries = fs::read_dir(folder).expect("the folder of tables");
+    let mut files: Vec<PathBuf> = entries.map(|entry| entry.expect("a table").path()).collect();
+    files.sort();
+    files
+}
+
+/// Searches in a process of its own, as a call of the tool cannot be stopped.
+fn search_in_time(file: &Path, limit: Duration) {
+    let itself = std::env::current_exe().expect("the path of this program");
+    let mut child = Command::new(itself).arg(SEARCH).arg(file).spawn().expect("another process");
+    match ended(&mut child, limit) {
+        Some(status) if status.success() => {}
+        Some(status) => println!("{}: {status}", row_of(file)),
+        None => {
+            child.kill().and_then(|()| child.wait()).expect("the end of the process");
+            println!("{}: stopped after {} s", row_of(file), limit.as_secs());
+        }
+    }
+}
+
+fn ended(child: &mut Child, limit: Duration) -> Option<ExitStatus> {
+    let start = Instant::now();
+    loop {
+        let status = child.try_wait().expect("the state of the process");
+        if status.is_some() || start.elapsed() > limit {
+            return status;
+        }
+        sleep(Duration::from_millis(2));
+    }
+}
+
+fn row_of(file: &Path) -> String {
+    format!("search {}", file.file_stem().unwrap_or_default().display())
+}
+
+/// One search with a buffer like the program's: its answer, how many conflicts it lists, its mark and
+/// its time.
+fn search(path: &Path) {
+    let file = fs::read(path).expect("a table");
+    let table = reader::read(&file).expect("a table that is read");
+    let mut answer = [0; 16_384];
+    let start = Instant::now();
+    let count = tool::search(&file, &mut answer).expect("an answer");
+    let milliseconds = start.elapsed().as_secs_f64() * 1000.0;
+    let found = if answer.starts_with(b"AL") { "found" } else { "none" };
+    let mark = if answer[count - 1] == 1 { "complete" } else { "cut" };
+    let conflicts = places(&table, count);
+    println!("{}: {found}, {conflicts} conflicts, {mark}, {milliseconds:.3} ms", row_of(path));
 }
 
 /// One test for each of many equal sets; reading the file once is lost among them.

@@ -118,6 +118,7 @@ impl<A: PartialEq + Debug> Comparison<'_, A> {
 #[cfg(test)]
 mod tests {
     use super::*;
+    use crate::comparison::misreading::MISREADINGS;
     use crate::judge::{Judgement, judge};
     use crate::model::{Cause, Refusal, Table};
     use crate::reader::read;
@@ -157,31 +158,11 @@ mod tests {
 
     #[test]
     fn judging_another_table_is_detected() {
+        for (what, misread) in MISREADINGS {
+            detected_table(what, &misread);
+        }
         detected_table("limit one more", &|table| {
             table.processors[0].limit = 1000.min(table.processors[0].limit + 1)
-        });
-        detected_table("memory one more", &|table| {
-            table
-                .processors
-                .iter_mut()
-                .for_each(|processor| processor.memory = processor.memory.saturating_add(1));
-        });
-        detected_table("capacity one more", &|table| table.capacity = table.capacity.saturating_add(1));
-        detected_table("deadlines at the periods", &|table| {
-            table.tasks.iter_mut().for_each(|task| task.deadline = task.period);
-        });
-        detected_table("last exclusion overlooked", &|table| {
-            table.exclusive.pop();
-        });
-        detected_table("last co-residence overlooked", &|table| {
-            table.co_resident.pop();
-        });
-        detected_table("last message overlooked", &|table| {
-            table.messages.pop();
-        });
-        detected_table("residence of the last task overlooked", &|table| {
-            let all = (1 << table.processors.len()) - 1;
-            table.tasks.last_mut().expect("a task").residence = all;
         });
     }
 

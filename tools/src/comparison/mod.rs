@@ -3,5 +3,7 @@
 
 pub mod conflicts;
 pub mod judging;
+#[cfg(test)]
+mod misreading;
 pub mod reading;
 pub mod searching;

@@ -210,6 +210,7 @@ pub fn search_pruned(file: &[u8], buffer: &mut [u8]) -> Answer {
 #[cfg(test)]
 mod tests {
     use super::*;
+    use crate::comparison::misreading::MISREADINGS;
     use crate::conflict::conflict_code;
     use crate::schedule::members;
 
@@ -457,31 +458,11 @@ mod tests {
 
     #[test]
     fn misread_tables_are_detected() {
-        detected_table("last co-residence overlooked", &|table| {
-            table.co_resident.pop();
-        });
-        detected_table("last exclusion overlooked", &|table| {
-            table.exclusive.pop();
-        });
-        detected_table("last message overlooked", &|table| {
-            table.messages.pop();
-        });
-        detected_table("residence of the last task overlooked", &|table| {
-            table.tasks.last_mut().expect("a task").residence = (1 << table.processors.len()) - 1;
-        });
-        detected_table("memory one more", &|table| {
-            let each = table.processors.iter_mut();
-            each.for_each(|processor| processor.memory = processor.memory.saturating_add(1));
-        });
-        detected_table("no limit", &|table| {
+        for (what, misread) in MISREADINGS {
+            detected_table(what, &misread);
+        }
+        detected_table("limits overlooked", &|table| {
             table.processors.iter_mut().for_each(|processor| processor.limit = 1000);
-        });
-        detected_table("capacity one more", &|table| table.capacity += 1);
-        detected_table("deadlines at the periods", &|table| {
-            table.tasks.iter_mut().for_each(|task| task.deadline = task.period);
-        });
-        detected_table("priorities the other way", &|table| {
-            table.tasks.iter_mut().for_each(|task| task.priority = !task.priority);
         });
     }
 }

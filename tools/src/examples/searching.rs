@@ -102,7 +102,10 @@ fn lists() -> Vec<Example> {
     // alone, behind the answer.
     let mut behind = late_beside_two();
     behind.tasks[2].residence = 2;
+    // Task 1 is late beside 2, which goes before it: 1 + 1 > 1. Task 0 goes after both and is in time.
+    let bystander = free_table(vec![task(1, 8, 8, 1), task(1, 4, 1, 2), task(1, 4, 4, 3)], 1);
     vec![
+        example("a task that has no part in it", bystander, 20, b"NO\xFF\xFF\xFFNG\x06\0\0\0EN\x01"),
         example("two conflicts, no place", late_beside_two(), 8, b"AL\0\x01\x01EN\0"),
         either("two conflicts, one place: cut", late_beside_two(), 14, &one),
         either("a byte short of two places", late_beside_two(), 19, &one),

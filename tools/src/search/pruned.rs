@@ -52,6 +52,7 @@ impl Truth for Pruned<'_> {
 
     fn uncovered(&self, conflicts: &[u32]) -> Option<Vec<u32>> {
         let holds_one = |set: u32| conflicts.iter().any(|conflict| conflict & !set == 0);
+        // If the first that holds none is not earlier, no other is.
         let first = Part::empty(self.table, &holds_one).first_placement();
         first.filter(|part| self.is_earlier(&part.placement())).map(|part| part.on)
     }
