@@ -124,7 +124,7 @@ impl Placed<'_> {
     }
 
     /// The work of a processor in one hyperperiod.
-    fn load(&self, processor: usize) -> u64 {
+    pub fn load(&self, processor: usize) -> u64 {
         let hyperperiod = u64::from(self.table.hyperperiod);
         let tasks = members(self.on(processor)).map(|task| &self.table.tasks[task]);
         tasks.map(|task| u64::from(task.execution) * hyperperiod / u64::from(task.period)).sum()
@@ -143,7 +143,7 @@ impl Placed<'_> {
         carried <= u64::from(self.table.capacity) * hyperperiod
     }
 
-    fn response(&self, task: usize) -> u32 {
+    pub fn response(&self, task: usize) -> u32 {
         response(&self.table.tasks, self.on(usize::from(self.placement[task])), task)
     }
 }

@@ -3,20 +3,27 @@
 //! - `reader`, `schedule`, `conflict`, `judge`, `search`: the independent implementation;
 //! - `generate`: random inputs; `examples`: inputs with answers worked out by hand;
 //! - `comparison`: runs both on many inputs;
-//! - `tool`: the tool's C functions.
+//! - `tool`: the tool's C functions; `program`: the program, as a process;
+//! - `text`, `listing`, `explain`: tables that people write, what the program prints, and that in words, for
+//!   the binary `table`.
 //!
 //! `cargo test --lib` checks these against each other and needs nothing else. The tests in `tests/`
 //! and the benchmark call the tool: RATTLE_STATICLIB names the folder of its `libexport.a`.
 
+pub mod columns;
 pub mod comparison;
 pub mod conflict;
 pub mod examples;
+pub mod explain;
 pub mod file;
 pub mod generate;
 pub mod judge;
+pub mod listing;
 pub mod model;
+pub mod program;
 pub mod random;
 pub mod reader;
 pub mod schedule;
 pub mod search;
+pub mod text;
 pub mod tool;

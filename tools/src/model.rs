@@ -123,6 +123,31 @@ pub const CAUSES: [Cause; 15] = [
     Cause::BadConflictMask,
 ];
 
+impl Cause {
+    pub fn words(self) -> &'static str {
+        match self {
+            Cause::Cut => "the bytes run out within a record",
+            Cause::UnknownMark => "an unknown mark",
+            Cause::OutOfOrder => "a record earlier in the order than the one before it, or a second network",
+            Cause::TooMany => "one more of this kind than allowed",
+            Cause::OutOfRange => "a number outside its range",
+            Cause::NotInFile => {
+                "a task or processor that the file does not have, an empty residence, a group below two, \
+                 or a message from a task to itself"
+            }
+            Cause::PriorityUsed => "the priority of an earlier task",
+            Cause::PeriodsDiffer => "a sender and a receiver of different periods",
+            Cause::PairRepeated => "the sender and receiver of an earlier message",
+            Cause::HyperperiodTooLarge => "a period with which the hyperperiod passes 1,000,000,000",
+            Cause::KindMissing => "no network, no processor or no task",
+            Cause::BufferTooShort => "an answer buffer that is too short",
+            Cause::PlacementLength => "a placement of another length than the number of tasks",
+            Cause::UnknownProcessor => "a placement on a processor that the file does not have",
+            Cause::BadConflictMask => "a set with an unknown task, or with fewer than two",
+        }
+    }
+}
+
 #[derive(Clone, Copy, Debug, PartialEq, Eq)]
 pub struct Refusal {
     pub cause: Cause,

@@ -33,4 +33,12 @@ impl Load {
         let full = Load::full(h);
         (limit as u64) * full.0 < 1000 * self.0
     }
+
+    // In thousandths of a full one, rounded down.
+    pub fn thousandths(self, h: u64) -> u64
+        requires { ⌜ (1 ≤ h) × (self .0 ≤ 24 * 1000000000) ⌝ }
+        ensures { λ r. ⌜ r ≡ 1000 * self .0 / h ⌝ }
+    {
+        1000 * self.0 / h
+    }
 }

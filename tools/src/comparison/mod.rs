@@ -3,7 +3,9 @@
 
 pub mod conflicts;
 pub mod judging;
+pub mod listings;
 #[cfg(test)]
 mod misreading;
+pub mod printing;
 pub mod reading;
 pub mod searching;

@@ -85,7 +85,7 @@ impl Tally {
 const TOO_SHORT: Refusal = Refusal { cause: Cause::BufferTooShort, place: 0 };
 
 /// As long as the buffer that the program gives the search.
-const PROGRAMS_BUFFER: usize = 16_384;
+pub const PROGRAMS_BUFFER: usize = 16_384;
 
 struct Comparison<'a> {
     candidate: Search<'a>,

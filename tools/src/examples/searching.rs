@@ -45,6 +45,18 @@ pub fn three() -> Table {
     Table { capacity: 5, processors: vec![processor(100, 1000); 2], ..free_table(tasks, 2) }
 }
 
+/// What the program prints for it, whole (01 "The program").
+pub const LISTING: &str = "\
+found
+task 0 on 0 response 1 deadline 4
+task 1 on 0 response 3 deadline 6
+task 2 on 1 response 3 deadline 9
+load 0 583
+load 1 250
+conflict 0 1 2
+complete
+";
+
 fn of_the_program() -> Vec<Example> {
     let listed = b"AL\0\0\x01NG\x07\0\0\0EN\x01";
     vec![

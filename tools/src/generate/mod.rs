@@ -3,5 +3,7 @@
 pub mod around;
 pub mod crowded;
 pub mod faulty;
+pub mod files;
+pub mod lamps;
 pub mod sets;
 pub mod tables;

@@ -1,7 +1,7 @@
 //! A check of any search answer.
 
 use super::{Truth, head, places, shortest_answer};
-use crate::schedule::{members, run};
+use crate::schedule::{late, members, run};
 use std::collections::HashMap;
 
 /// What can be wrong with an answer.
@@ -25,8 +25,10 @@ pub struct Listing {
     pub complete: bool,
 }
 
-/// Checks answers for one table. Its hyperperiod should be short, as the tick run decides whether a
-/// conflict is one.
+/// The hyperperiod up to which the tick run decides whether a set is late; beyond it is the equation.
+const LONGEST_RUN: u32 = 10_000;
+
+/// Checks answers for one table.
 pub struct Checker<'a> {
     pub truth: &'a dyn Truth,
     /// Answers for other buffers list the same sets again: what was found out is kept. Whether a set is a
@@ -61,12 +63,8 @@ impl Checker<'_> {
         let fits = (shortest..=answer.len()).contains(&count);
         ensure(fits && (count - shortest).is_multiple_of(6), Fault::Count)?;
         let (start, rest) = answer[..count].split_at(shortest - 3);
-        ensure(start == head(self.truth), Fault::Head)?;
-        let (records, end) = rest.split_at(rest.len() - 3);
-        ensure(end.starts_with(b"EN") && end[2] <= 1, Fault::Layout)?;
-        ensure(records.chunks(6).all(|record| record.starts_with(b"NG")), Fault::Layout)?;
-        let mask = |record: &[u8]| u32::from_le_bytes([record[2], record[3], record[4], record[5]]);
-        Ok(Listing { conflicts: records.chunks(6).map(mask).collect(), complete: end[2] == 1 })
+        ensure(start == head(self.truth.table(), self.truth.first()), Fault::Head)?;
+        parse_list(rest)
     }
 
     fn is_complete(&mut self, conflicts: &[u32]) -> bool {
@@ -80,13 +78,26 @@ impl Checker<'_> {
 
     fn is_minimal_conflict(&mut self, set: u32) -> bool {
         let table = self.truth.table();
-        let runs_late = |set: u32| run(&table.tasks, set, 2 * table.hyperperiod).late;
+        let runs_late = |set: u32| match table.hyperperiod {
+            0..=LONGEST_RUN => run(&table.tasks, set, 2 * table.hyperperiod).late,
+            _ => late(&table.tasks, set),
+        };
         *self.minimal.entry(set).or_insert_with(|| {
             set >> table.tasks.len() == 0
                 && runs_late(set)
                 && members(set).all(|task| !runs_late(set & !(1 << task)))
         })
     }
+}
+
+/// What stands behind an answer's head.
+pub fn parse_list(list: &[u8]) -> Result<Listing, Fault> {
+    ensure(list.len() % 6 == 3, Fault::Count)?;
+    let (records, end) = list.split_at(list.len() - 3);
+    ensure(end.starts_with(b"EN") && end[2] <= 1, Fault::Layout)?;
+    ensure(records.chunks(6).all(|record| record.starts_with(b"NG")), Fault::Layout)?;
+    let mask = |record: &[u8]| u32::from_le_bytes([record[2], record[3], record[4], record[5]]);
+    Ok(Listing { conflicts: records.chunks(6).map(mask).collect(), complete: end[2] == 1 })
 }
 
 fn ensure(holds: bool, fault: Fault) -> Result<(), Fault> {

@@ -43,9 +43,10 @@ pub trait Truth {
     fn uncovered(&self, conflicts: &[u32]) -> Option<Vec<u32>>;
 }
 
-fn head(truth: &dyn Truth) -> Vec<u8> {
-    let nowhere = vec![255; truth.table().tasks.len()];
-    match truth.first() {
+/// The head for this placement, or for none.
+pub fn head(table: &Table, first: Option<&[u8]>) -> Vec<u8> {
+    let nowhere = vec![255; table.tasks.len()];
+    match first {
         Some(placement) => [b"AL", placement].concat(),
         None => [b"NO", nowhere.as_slice()].concat(),
     }
@@ -63,11 +64,16 @@ pub fn answer(truth: &dyn Truth, buffer: &mut [u8]) -> usize {
         conflicts.push(some_conflict(table, sets));
         open = truth.uncovered(&conflicts);
     }
-    let records = conflicts.iter().map(|conflict| [b"NG", conflict.to_le_bytes().as_slice()].concat());
-    let end = [b'E', b'N', u8::from(open.is_none())];
-    let answer = [head(truth), records.collect::<Vec<_>>().concat(), end.to_vec()].concat();
+    let answer = with_list(head(table, truth.first()), &conflicts, open.is_none());
     buffer[..answer.len()].copy_from_slice(&answer);
     answer.len()
+}
+
+/// The answer that has this head, these conflicts and this mark.
+pub fn with_list(head: Vec<u8>, conflicts: &[u32], complete: bool) -> Vec<u8> {
+    let records = conflicts.iter().map(|conflict| [b"NG", conflict.to_le_bytes().as_slice()].concat());
+    let end = [b'E', b'N', u8::from(complete)];
+    [head, records.collect::<Vec<_>>().concat(), end.to_vec()].concat()
 }
 
 /// A minimal part of the first late set.

@@ -1,0 +1,17 @@
+-- `put_item` meets its contract.
+use native.Mathlib.Omega.{arith}
+use borrow.Author.Needs.{needs}
+use Rattle.text.proofs.Laws.{put-then, digits-few}
+use Rattle.lines.proofs.put_item.Statement.{statement}
+use Rattle.lines.proofs.put_item.Tie as tie
+
+pub put-item-spec : {M : Type 1} → statement M
+put-item-spec =
+    tie.close
+    (tie.spec
+    (λ c κs. search needs)  -- put-requires
+    (λ c κs. search needs)  -- put-decimal-requires
+    (λ c. search needs)  -- same-length
+    (λ c. let v = c .before .before in
+    let u = v .before .before .before .before in
+    (put-then (u .put .ensures) (v .put-decimal .ensures), omega (arith, u .put .ensures .ends, v .put-decimal .ensures .ends, digits-few 20 (u .before .before .before .before .args .x)))))  -- returns

@@ -1,0 +1,55 @@
+-- What the listing needs of a table that was read, and of its own definitions. Assumes nothing.
+use mathlib.Core.Path.{_≡_, refl}
+use mathlib.Core.Bool.{Bool, true, false}
+use mathlib.Core.List.{List, _++_}
+use Prim.Native.Nat.{ℕ, _+_, _*_, _≤_}
+use native.Mathlib.Omega.{arith}
+use borrow.Author.Tests.{ltb-false}
+use lib.Dec.{ltb}
+use lib.ListN.{length, getD}
+use Rattle.multiple.proofs.Laws.{lcmTo-pos}
+use Rattle.wire.specs.Wire.{Bytes}
+use Rattle.table.specs.declared.Table.{Table}
+use Rattle.table.specs.declared.Outcome.{Outcome}
+use Rattle.table.specs.declared.Outcome.the-variants as outcomes
+use Rattle.table.specs.Table.{readOf}
+use Rattle.table.proofs.Sound.{read-sound}
+use Rattle.table.specs.Sound.{Sound}
+use Rattle.search.specs.declared.Answer.{Answer}
+use Rattle.search.specs.declared.Answer.the-variants.{Written}
+use Rattle.search.specs.Search.{AnsweredBy, SearchedBy, Searched}
+use Rattle.lines.specs.Lines.{firstLine}
+use Rattle.listing.specs.Listing.{placementLines, headLines}
+
+-- a hyperperiod is not 0
+pub some-tick : {t : Table} → Sound t → 1 ≤ t .hyperperiod
+some-tick {t} h =
+    let a = h .tasks in
+    omega (arith, h .hyperperiod, lcmTo-pos (t .tasks .count) (λ j. getD (t .tasks .t) j 0) (λ j l. omega (arith, a .works j l, a .c-d j l, a .d-t j l)))
+
+-- the head without a placement, and with one
+pub head-none : {found : Bool} → found ≡ false → (file : List ℕ) (t : Table) (q : List ℕ) → headLines found file t q ≡ firstLine found
+head-none e file t q = rw e refl
+
+pub head-more : {found : Bool} → found ≡ true → (file : List ℕ) (t : Table) (q : List ℕ) → headLines found file t q ≡ firstLine found ++ placementLines file t q
+head-more e file t q = rw e refl
+
+-- an answer that is written: the file was read, and the bytes written lie within the buffer
+pub record Answered (file old : List ℕ) (count : ℕ) : Type 0 where
+  pub sound : Sound (readOf file .table)
+  pub least : readOf file .table .tasks .count + 5 ≤ count
+  pub most : count ≤ length old
+
+pub answered : (file old new : List ℕ) (r : Answer) (count : ℕ) → Bytes file → Searched file old new r → r ≡ Written count → Answered file old count
+answered file old new r count b s e = go (readOf file .outcome) refl s
+  where
+    by-length : (c : Bool) → ltb (length old) (readOf file .table .tasks .count + 5) ≡ c → readOf file .outcome ≡ outcomes.Readable → AnsweredBy c (readOf file .table) old new r → Answered file old count
+    by-length true l h a = let q = a .0 in absurd (let z : _≡_ {A = ℕ} 0 1 = cc in omega arith)
+    by-length false l h a =
+        let q = a .count in
+        let z : readOf file .table .tasks .count + 5 + 6 * length (a .conflicts) ≡ count = cc in
+        record { sound = read-sound file b h; least = omega arith; most = omega (arith, a .room, ltb-false (length old) (readOf file .table .tasks .count + 5) l) }
+
+    go : (o : Outcome) → readOf file .outcome ≡ o → SearchedBy o (readOf file .table) old new r → Answered file old count
+    go (outcomes.Refused c p) h a = let q = a .0 in absurd (let z : _≡_ {A = ℕ} 0 1 = cc in omega arith)
+    go outcomes.Readable h a = by-length (ltb (length old) (readOf file .table .tasks .count + 5)) refl h a

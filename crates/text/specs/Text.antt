@@ -1,0 +1,27 @@
+-- Text as bytes. Assumes nothing.
+use mathlib.Core.Path.{_≡_}
+use mathlib.Core.Bool.{cond}
+use mathlib.Core.List.{List, [], _∷_, _++_}
+use Prim.Native.Nat.{ℕ, zero, suc, _+_, _/_, _%_, _≤_}
+use lib.Dec.{ltb}
+use lib.ListN.{length, take, drop}
+
+-- the last `most` decimal digits of x, without leading zeros, in ASCII
+unfoldable pub digits : ℕ → ℕ → List ℕ
+digits zero x = []
+digits (suc most) x = cond (ltb x 10) ((48 + x) ∷ []) (digits most (x / 10) ++ ((48 + x % 10) ∷ []))
+
+-- x in decimal: a number of 64 bits has at most 20 digits
+abbrev pub decimal : ℕ → List ℕ
+decimal x = digits 20 x
+
+-- the pieces of 0 to n - 1, one after another
+unfoldable pub pieces : ℕ → (ℕ → List ℕ) → List ℕ
+pieces zero f = []
+pieces (suc n) f = pieces n f ++ f n
+
+-- a piece of text was put at a place; it ends at `end`, and what stood behind that stands there still
+pub record Put (old : List ℕ) (at : ℕ) (piece new : List ℕ) (end : ℕ) : Type 0 where
+  pub text : new ≡ take at old ++ piece ++ drop end old
+  pub ends : end ≡ at + length piece
+  pub room : end ≤ length old

@@ -1,0 +1,61 @@
+//! The examples in C and Rust: they compile without a warning, link with the tool, and print what they should.
+
+use std::path::{Path, PathBuf};
+use std::process::Command;
+use tools::examples::searching::three;
+use tools::file::encode;
+use tools::program::{root, run};
+
+fn library() -> PathBuf {
+    PathBuf::from(
+        std::env::var("RATTLE_STATICLIB").expect("RATTLE_STATICLIB names the folder of libexport.a"),
+    )
+}
+
+/// Compiles an example; the compiler gets its source and the program's path last.
+fn compiled(compiler: &mut Command, source: &str) -> PathBuf {
+    let program = Path::new(env!("CARGO_TARGET_TMPDIR")).join(source.replace('.', "-"));
+    let status = compiler.arg("-o").arg(&program).status().unwrap_or_else(|error| panic!("{error}"));
+    assert!(status.success(), "{source}");
+    program
+}
+
+fn of_c(source: &str) -> PathBuf {
+    let mut gcc = Command::new("gcc");
+    gcc.args(["-std=c11", "-Wall", "-Wextra", "-Werror", "-I"]).arg(root().join("include"));
+    gcc.arg(root().join("examples").join(source)).arg(library().join("libexport.a"));
+    compiled(&mut gcc, source)
+}
+
+fn of_rust(source: &str) -> PathBuf {
+    let mut rustc = Command::new("rustc");
+    rustc.args(["--edition", "2024", "-D", "warnings", "-l", "static=export", "-L"]).arg(library());
+    compiled(rustc.arg(root().join("examples").join(source)), source)
+}
+
+fn prints(program: &Path, file: &[u8], lines: &str) {
+    let ran = run(&mut Command::new(program), &[file]);
+    assert_eq!((ran.status, String::from_utf8_lossy(&ran.said).as_ref()), (Some(0), ""));
+    assert_eq!(String::from_utf8_lossy(&ran.printed), lines, "{}", program.display());
+}
+
+#[test]
+fn judging() {
+    prints(&of_c("judge.c"), b"", "0\n107\n13\n");
+}
+
+/// The program's example; two of its tasks, which are in time together, without the memory for one, so that
+/// no placement keeps the rules and no set is a conflict; and a file that is cut in its last record, at 66.
+#[test]
+fn searching() {
+    let example = encode(&three());
+    let mut crowded = three();
+    crowded.tasks.truncate(2);
+    crowded.tasks[1].memory = 101;
+    for program in [of_c("search.c"), of_rust("search.rs")] {
+        let found = "placed on 0 0 1\nthese cannot share a processor: 0 1 2\nthe list is complete\n";
+        prints(&program, &example, found);
+        prints(&program, &encode(&crowded), "no placement\nthe list is complete\n");
+        prints(&program, &example[..87], "refused: cause 1 at 66\n");
+    }
+}

@@ -1,0 +1,195 @@
+//! Listings for people, and the binary `table`.
+
+use std::fs;
+use std::path::{Path, PathBuf};
+use std::process::Command;
+use tools::examples::reading;
+use tools::examples::searching::{LISTING, three};
+use tools::explain::explain;
+use tools::file::encode;
+use tools::listing::{Found, Listing, Stand, parse};
+use tools::model::{CAUSES, Refusal};
+use tools::program::{self, root};
+use tools::text::Names;
+
+const EXAMPLE: &str = "\
+Found: this is the first placement that keeps the rules and in which no job is ever late; the set listed \
+cannot share a processor, and every earlier one breaks a rule or has that set on one processor.
+
+task    processor  response  deadline
+brake   drive-a           1         4
+motor   drive-a           3         6
+report  drive-b           3         9
+
+processor  load  limit
+drive-a     583   1000  |########################                |
+drive-b     250   1000  |##########                              |
+
+cannot share a processor:
+  brake, motor, report
+";
+
+fn of_the_program(found: bool, conflicts: Vec<u32>, complete: bool) -> Listing {
+    let stand = |processor, response, deadline| Stand { processor, response, deadline };
+    let tasks = vec![stand(0, 1, 4), stand(0, 3, 6), stand(1, 3, 9)];
+    let found = found.then(|| Found { tasks, loads: vec![583, 250] });
+    Listing::Searched { found, conflicts, complete }
+}
+
+/// The sentence is the first line; what the list says stands in it.
+#[test]
+fn sentences() {
+    let first = "Found: this is the first placement that keeps the rules and in which no job is ever late";
+    let breaks = "every earlier one breaks a rule";
+    let none = "No placement exists";
+    let two = "each of the 2 sets listed cannot share a processor";
+    let cut = "keeps the rules and has no set listed on one processor; it is late by another";
+    let rule_out = "out every placement that keeps the rules";
+    let one = "the set listed cannot share a processor, and this rules";
+    let cases = [
+        (true, vec![], true, format!("{first}; {breaks}.")),
+        (true, vec![3, 5], true, format!("{first}; {two}, and {breaks} or has such a set on one processor.")),
+        (true, vec![3, 5], false, format!("{first}; {two}, but the list is cut: some earlier one {cut}.")),
+        (false, vec![], true, format!("{none}: none keeps the rules.")),
+        (false, vec![7], true, format!("{none}: {one} {rule_out}.")),
+        (false, vec![3, 5], true, format!("{none}: {two}, and together they rule {rule_out}.")),
+        (false, vec![3, 5], false, format!("{none}; {two}, but the list is cut: some placement {cut}.")),
+    ];
+    for (found, conflicts, complete, sentence) in cases {
+        let listing = of_the_program(found, conflicts, complete);
+        let explained = explain(&encode(&three()), None, &listing).expect("a listing of this table");
+        assert_eq!(explained.lines().next(), Some(sentence.as_str()));
+        assert_eq!(explained.contains("t0    p0 "), found, "{explained}");
+        assert_eq!(explained.contains("  t0, t2\n"), sentence.contains(two), "{explained}");
+    }
+}
+
+/// A listing of another table is none of this one.
+#[test]
+fn listings_of_other_tables() {
+    let file = encode(&three());
+    let of = |text: &str| explain(&file, None, &parse(text).expect("a listing"));
+    assert!(of("none\nconflict 0 1 2\ncomplete\n").is_some());
+    assert_eq!(of("none\nconflict 0 1 3\ncomplete\n"), None);
+    assert_eq!(of("refused 7 36\n"), None);
+    assert_eq!(of("found\ntask 0 on 0 response 1 deadline 4\nload 0 583\nload 1 250\ncomplete\n"), None);
+    let printed = of_the_program(true, vec![7], true).to_string();
+    assert!(of(&printed).is_some());
+    assert_eq!(of(&printed.replace("on 1", "on 2")), None);
+    assert_eq!(of(&printed.replace("deadline 9", "deadline 10")), None);
+    assert_eq!(of(&printed.replace("load 1 250\n", "")), None);
+    assert_eq!(explain(&file[..20], None, &of_the_program(true, vec![7], true)), None);
+}
+
+/// Refusals in words: the cause, and the record by its number among those of its kind.
+#[test]
+fn refusals() {
+    let sentence = |what: &str| {
+        let example = reading::all().into_iter().find(|example| example.what == what).expect("an example");
+        let refusal = Refusal::of_code(example.number << 32 | example.place).expect("a refusal");
+        explain(&example.file.bytes, None, &Listing::Refused(refusal)).expect("an explanation")
+    };
+    let cases = [
+        ("4E 54 01 00", "1, at byte 0, network 0 (the first is 0): the bytes run out within a record."),
+        ("51 51 at the start", "2, at byte 0, which is no record: an unknown mark."),
+        ("a ninth PR", "4, at byte 70, processor 8 (the first is 0): one more of this kind than allowed."),
+        ("C 5, D 4, T 8", "5, at byte 14, task 0 (the first is 0): a number outside its range."),
+        ("two TK of priority 9", "7, at byte 36, task 1 (the first is 0): the priority of an earlier task."),
+        (
+            "0 to 1 twice",
+            "9, at byte 66, message 1 (the first is 0): the sender and receiver of an earlier message.",
+        ),
+        ("empty input", "11, at its end, after 0 bytes: no network, no processor or no task."),
+    ];
+    for (what, words) in cases {
+        assert_eq!(sentence(what), format!("The file is refused, number {words}\n"));
+    }
+    let refused = reading::all().into_iter().filter(|example| example.number != 0);
+    refused.for_each(|example| assert!(sentence(example.what).ends_with(".\n")));
+    assert!(CAUSES.iter().all(|cause| !cause.words().is_empty()));
+}
+
+fn path(name: &str) -> PathBuf {
+    root().join("tables").join(name)
+}
+
+/// Writes a file that the binary is to read.
+fn written(name: &str, content: &[u8]) -> PathBuf {
+    let path = Path::new(env!("CARGO_TARGET_TMPDIR")).join(name);
+    fs::write(&path, content).expect("a file");
+    path
+}
+
+/// Runs the binary with this standard input: what it prints, or what it says on standard error with status 1.
+fn run(command: &str, path: &Path, input: &str) -> Result<Vec<u8>, String> {
+    let mut binary = Command::new(env!("CARGO_BIN_EXE_table"));
+    let ran = program::run(binary.arg(command).arg(path), &[input.as_bytes()]);
+    let said = String::from_utf8(ran.said).expect("UTF-8");
+    if ran.status == Some(0) {
+        assert_eq!(said, "");
+        return Ok(ran.printed);
+    }
+    assert_eq!((ran.status, ran.printed), (Some(1), Vec::new()));
+    Err(said)
+}
+
+#[test]
+fn texts_and_files() {
+    let file = run("encode", &path("bridge.txt"), "").expect("a table file");
+    let table = written("bridge.table", &file);
+    assert_eq!(run("encode", &table, ""), Ok(file.clone()));
+    let text = written("bridge.decoded", &run("decode", &table, "").expect("a text"));
+    assert_eq!(run("encode", &text, ""), Ok(file.clone()));
+    assert_eq!(run("round-trip", &table, ""), run("decode", &table, ""));
+    let tidy = run("round-trip", &path("bridge.txt"), "").expect("a text with its names");
+    assert!(String::from_utf8_lossy(&tidy).contains("\nmessage operator-panel  -> horn            1\n"));
+    let tidy_text = written("bridge.tidy", &tidy);
+    assert_eq!(run("encode", &tidy_text, ""), Ok(file));
+    assert_eq!(run("round-trip", &tidy_text, ""), Ok(tidy));
+}
+
+#[test]
+fn explanations() {
+    let example = path("example.txt");
+    assert_eq!(run("listing", &example, ""), Ok(LISTING.as_bytes().to_vec()));
+    assert_eq!(run("explain", &example, LISTING), Ok(EXAMPLE.as_bytes().to_vec()));
+    let table = written("example.table", &encode(&three()));
+    let explained = String::from_utf8(run("explain", &table, LISTING).expect("words")).expect("UTF-8");
+    assert!(explained.ends_with("cannot share a processor:\n  t0, t1, t2\n"), "{explained}");
+    let names = Names::made_up(&three());
+    assert_eq!(explain(&encode(&three()), Some(names), &parse(LISTING).expect("a listing")), Some(explained));
+}
+
+/// The path and the line; one line for each mistake; nothing on standard output.
+#[test]
+fn reasons() {
+    let says = |command: &str, path: &Path, input: &str, reasons: &[&str]| {
+        let lines: String = reasons.iter().map(|reason| format!("{}:{reason}\n", path.display())).collect();
+        assert_eq!(run(command, path, input), Err(lines));
+    };
+    let twice =
+        fs::read_to_string(path("example.txt")).expect("a text").replace("priority 10", "priority 30");
+    let twice = written("priority-twice.txt", twice.as_bytes());
+    let priority = "11: expected a priority of its own, found 30 as in line 9 (refusal 7)";
+    says("encode", &twice, "", &[priority]);
+    says("explain", &twice, "refused 7 66\n", &[priority]);
+    let two = written("two-mistakes.txt", b"network five\nprocessor a memory 1\n");
+    let number = "1: expected a whole number from 0 to 4294967295 after \"network\", found \"five\"";
+    says("encode", &two, "", &[number, "2: expected \"limit\", found the end of the line"]);
+    let latin = written("latin.txt", b"# \xFC");
+    says("encode", &latin, "", &["1: expected text in UTF-8, found other bytes"]);
+    let cut = written("cut.table", &encode(&three())[..30]);
+    for command in ["decode", "round-trip"] {
+        says(command, &cut, "", &[" refused 1 22: the bytes run out within a record"]);
+    }
+    let example = path("example.txt");
+    says("explain", &example, "found\n", &[" what stands on standard input is not a listing"]);
+    says("explain", &example, "refused 7 36\n", &[" the listing is not one of this table"]);
+    let usage = Err("usage: table encode|decode|round-trip|listing|explain FILE [NAME]\n".to_string());
+    assert_eq!(run("incode", &example, ""), usage);
+    let named = Command::new(env!("CARGO_BIN_EXE_table")).arg("encode").arg(&latin).arg("a name").output();
+    let said = named.expect("the binary runs").stderr;
+    assert_eq!(said, b"a name:1: expected text in UTF-8, found other bytes\n");
+    let missing = run("encode", &path("no-such-table"), "").expect_err("no file");
+    assert!(missing.contains("no-such-table: "), "{missing}");
+}
