@@ -1,14 +1,83 @@
 // Which open task the search places next. No answer rests on the choice: it decides only how long the search takes.
-ghost use Prim.Native.Nat.{_<_, _≤_};
+ghost use mathlib.Core.Path.{_≡_};
+ghost use Prim.Native.Nat.{_+_, _*_, _<_, _≤_};
 ghost use lib.Dec.{T};
+ghost use lib.ListN.{length, getD, set};
 ghost use Rattle.mask.specs.Mask.{has};
 ghost use Rattle.table.specs.declared.Table.{Table};
+ghost use Rattle.schedule.specs.Arrays.{InLimits};
 ghost use Rattle.partial.specs.Partial.{Fits};
 ghost use Rattle.region.specs.Lends.{Lends};
+ghost use Rattle.branching.specs.Notes.{heavier};
 use partial::Sizes;
 use partial::State;
 
-// How many processors can take the open task k, by the rules and in time; counted no further than one above `most`.
+// x as a wider number.
+fn wide(x: u32) -> u64
+    ensures { λ r. ⌜ r < 4294967296 ⌝ }
+{
+    x as u64
+}
+
+// A failure weight after one failure more. It stays where it has grown large.
+fn heavier(weight: u32) -> u32
+    ensures { λ r. ⌜ r ≡ heavier weight ⌝ }
+{
+    if 4000000000 <= weight {
+        return weight;
+    }
+    weight + 16
+}
+
+// The failure weight of task k grows: no processor could take it.
+pub fn blame(notes: &mut [u32], k: usize)
+    requires { ⌜ k < length (now notes) ⌝ }
+    ensures { λ _. ⌜ now (notes .exit) ≡ set (now (notes .entry)) k (heavier (getD (now (notes .entry)) k 0)) ⌝ }
+{
+    notes[k] = heavier(notes[k]);
+}
+
+// A pseudo-random number below 128: the high bits of a linear congruential generator.
+pub fn noise(notes: &mut [u32]) -> u64
+    requires { ⌜ 64 ≤ length (now notes) ⌝ }
+    ensures { λ r. ⌜ r < 128 ⌝ }
+{
+    let next = (wide(notes[24]) * 1103515245 + 12345) % 2147483648;
+    notes[24] = next as u32;
+    next / 16777216
+}
+
+// The lower, the sooner task k is placed: few choices, a large weight; and a little noise, so that a restart chooses anew.
+fn score(base: u32, choices: u64, k: usize, notes: &mut [u32]) -> u64
+    requires { ⌜ (choices ≤ 8) × (k < 24) × (64 ≤ length (now notes)) ⌝ }
+{
+    let weight = wide(base) + wide(notes[k]) + 1;
+    let plain = choices * 1073741824 / weight;
+    plain + plain / 1024 * noise(notes) / 10
+}
+
+// Whether the search would pass over a set: it is late; or, with a full list of conflicts, it holds one of them.
+fn passed_over<'a>(
+    work: &'a [u32; 24],
+    period: &'a [u32; 24],
+    deadline: &'a [u32; 24],
+    priority: &'a [u32; 24],
+    higher: &'a [u32; 24],
+    tasks: usize,
+    set: u32,
+    full: bool,
+    list: &[u8],
+    count: usize,
+) -> bool
+    requires { ⌜ InLimits tasks (now work) (now period) (now deadline) (now priority) (now higher) set × (6 * count ≤ length (now list)) ⌝ }
+{
+    if full {
+        return answer::covered(list, count, set);
+    }
+    schedule::is_late(work, period, deadline, priority, higher, tasks, set)
+}
+
+// How many processors can take the open task k: the rules allow it, and the search would not pass over the set.
 fn choices<'a>(
     work: &'a [u32; 24],
     period: &'a [u32; 24],
@@ -26,14 +95,16 @@ fn choices<'a>(
     sizes: Sizes,
     s: State,
     k: usize,
-    most: u64,
+    full: bool,
+    list: &[u8],
+    count: usize,
 ) -> u64
-    requires { ⌜ ((t : Table) × Lends t sizes (now work) (now period) (now deadline) (now priority) (now higher) (now residence) (now memory) (now exclusions) (now co) (now sender) (now receiver) (now loads) (now amounts) × Fits t s) × T (has (s .left) k) ⌝ }
+    requires { ⌜ ((t : Table) × Lends t sizes (now work) (now period) (now deadline) (now priority) (now higher) (now residence) (now memory) (now exclusions) (now co) (now sender) (now receiver) (now loads) (now amounts) × Fits t s) × T (has (s .left) k) × (6 * count ≤ length (now list)) ⌝ }
     ensures { λ r. ⌜ r ≤ 8 ⌝ }
 {
-    let mut count: u64 = 0;
+    let mut found: u64 = 0;
     let mut p: usize = 0;
-    while p < sizes.processors && count <= most {
+    while p < sizes.processors {
         if partial::allows(
             residence,
             memory,
@@ -49,22 +120,27 @@ fn choices<'a>(
             p,
         ) {
             let set = mask::insert(s.on[p], k);
-            if !schedule::is_late(work, period, deadline, priority, higher, sizes.tasks, set) {
-                count += 1;
+            if !passed_over(
+                work,
+                period,
+                deadline,
+                priority,
+                higher,
+                sizes.tasks,
+                set,
+                full,
+                list,
+                count,
+            ) {
+                found += 1;
             }
         }
         p += 1;
     }
-    count
+    found
 }
 
-// Whether a task is placed before the best so far: it has fewer choices, or as many and a larger load.
-fn better(count: u64, fewest: u64, load: u64, best_load: u64) -> bool {
-    count < fewest || (count == fewest && best_load < load)
-}
-
-// An open task: the one with the fewest processors left, and of these the one with the largest load.
-// One that no processor can take is found at once: nothing can be better.
+// An open task: the one with the lowest score. One that no processor can take is answered at once, and blamed.
 pub fn pick<'a>(
     work: &'a [u32; 24],
     period: &'a [u32; 24],
@@ -79,18 +155,25 @@ pub fn pick<'a>(
     receiver: &'a [u32; 64],
     loads: &'a [u64; 24],
     amounts: &'a [u64; 64],
+    guide: &'a [u32; 120],
     sizes: Sizes,
     s: State,
+    listing: bool,
+    list: &[u8],
+    places: usize,
+    count: usize,
+    notes: &mut [u32],
 ) -> usize
-    requires { ⌜ ((t : Table) × Lends t sizes (now work) (now period) (now deadline) (now priority) (now higher) (now residence) (now memory) (now exclusions) (now co) (now sender) (now receiver) (now loads) (now amounts) × Fits t s) × (0 < s .left) ⌝ }
+    requires { ⌜ ((t : Table) × Lends t sizes (now work) (now period) (now deadline) (now priority) (now higher) (now residence) (now memory) (now exclusions) (now co) (now sender) (now receiver) (now loads) (now amounts) × Fits t s) × (0 < s .left) × (6 * count ≤ length (now list)) × (64 ≤ length (now notes)) ⌝ }
     ensures { λ r. ⌜ T (has (s .left) r) ⌝ }
 {
+    let full = listing && count == places;
     let mut best = mask::lowest(s.left);
-    let mut fewest: u64 = 9;
+    let mut least: u64 = 18446744073709551615;
     let mut rest = s.left;
     while rest != 0 {
         let k = mask::lowest(rest);
-        let count = choices(
+        let found = choices(
             work,
             period,
             deadline,
@@ -107,14 +190,18 @@ pub fn pick<'a>(
             sizes,
             s,
             k,
-            fewest,
+            full,
+            list,
+            count,
         );
-        if count == 0 {
+        if found == 0 {
+            blame(notes, k);
             return k;
         }
-        if better(count, fewest, loads[k], loads[best]) {
+        let value = score(guide[96 + k], found, k, notes);
+        if value < least {
             best = k;
-            fewest = count;
+            least = value;
         }
         rest = mask::remove(rest, k);
     }

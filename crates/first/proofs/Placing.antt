@@ -1,14 +1,14 @@
 -- The search for the first placement: a task on a processor, taken or passed over; the loop over the processors; the next task. Assumes nothing.
-use mathlib.Core.Path.{_≡_, refl, sym, ap, subst, _∙_}
+use mathlib.Core.Path.{_≡_, refl, sym, subst, _∙_}
 use mathlib.Core.Logic.{inl}
-use mathlib.Core.Bool.{Bool, true, false, not, _&&_, true≢false, false≢true}
+use mathlib.Core.Bool.{Bool, true, false, _&&_, true≢false}
 use mathlib.Core.List.{List}
-use Prim.Native.Nat.{ℕ, _+_, _*_, _≤_, _<_}
+use Prim.Native.Nat.{ℕ, _+_, _≤_, _<_}
 use native.Mathlib.Omega.{arith}
 use native.Mathlib.Decide.{ℕ-discrete, decLt}
 use borrow.Author.Tests.{ne-eqb}
 use lib.Dec.{T, eqb}
-use lib.ListN.{length, getD}
+use lib.ListN.{getD}
 use Rattle.finite.proofs.Some.{or-right}
 use Rattle.mask.specs.Mask.{has, removeOf}
 use Rattle.mask.proofs.Laws.{has-remove, remove-not, remove-subset}
@@ -21,18 +21,23 @@ use Rattle.rules.specs.Sets.{standing}
 use Rattle.rules.proofs.Monotone.{keeps-part}
 use Rattle.conflict.specs.Entry.{tasksIn}
 use Rattle.judge.proofs.Limits.{valid-tasks, constrained-tasks}
-use Rattle.ledger.specs.Ledger.{Ledger}
-use Rattle.ledger.proofs.Append.{ledger-start}
+use Rattle.ledger.specs.Ledger.{Ledger, Covered}
+use Rattle.ledger.proofs.Growth.{grows-refl}
 use Rattle.partial.specs.declared.State.{State}
-use Rattle.partial.specs.Partial.{Fits, Stepped, StepOf}
-use Rattle.region.specs.Region.{Within, Witness, Settled, Sooner}
-use Rattle.region.proofs.Refuting.{and-there, and-within}
+use Rattle.partial.specs.Partial.{Stepped, StepOf}
+use Rattle.region.specs.Region.{Within, Refuted, Witness, Marked, Settled, Sooner}
+use Rattle.region.specs.Begins.{Begins, Ready}
+use Rattle.region.proofs.Filling.{placed-is}
+use Rattle.region.proofs.Refuting.{and-there, and-part, and-within}
 use Rattle.region.proofs.Settling.{settled-nothing, settled-covered, settled-cut, settled-passed, first-start, first-pass, first-step, first-end}
-use Rattle.seek.specs.declared.Sought.{Sought}
-use Rattle.seek.specs.Seek.{Begins, Answers, SoughtIn}
+use Rattle.twin.specs.Twin.{Interchangeable}
+use Rattle.twin.proofs.Swap.{swap-refuted}
+use Rattle.deciding.specs.declared.Decided.{Decided}
+use Rattle.deciding.specs.declared.Covering.{Covering}
+use Rattle.deciding.specs.Deciding.{DecidedAs, CutAs, CoveringAs}
 use Rattle.first.specs.declared.Tried.{Tried}
 use Rattle.first.specs.declared.Reached.{Reached}
-use Rattle.first.specs.First.{InTime, Placing, TriesAs, TriedAs, FirstOf}
+use Rattle.first.specs.First.{InTime, Placing, PassedBelow, TriesAs, TriedAs, FirstOf}
 
 -- a test that was made
 pub held : {b x : Bool} → b ≡ x → b ≡ true → T x
@@ -46,9 +51,8 @@ module _ {t : Table} (h : Sound t) {places : ℕ} {s : State} {k : ℕ} {witness
   in-time : (p : ℕ) → InTime t (has (getD (s .on) p 0))
   in-time p l = w .good .clear p (late-within (tasksIn t) (valid-tasks h) (constrained-tasks h) (has (getD (s .on) p 0)) (has (getD witness p 0)) (λ j. w .good .part j p) l)
 
-  -- deciding begins with a list without places
-  pub deciding : (none : List ℕ) → 3 ≤ length none → Begins t false 0 s none 0
-  deciding none l = record { fits = w .fits; ledger = ledger-start (omega arith); clear = in-time }
+  pub deciding : Ready t s
+  deciding = record { fits = w .fits; in-time = in-time }
 
   pub listing : Begins t true places s list count
   listing = record { fits = w .fits; ledger = w .ledger; clear = λ p. inl (in-time p) }
@@ -58,26 +62,38 @@ module _ {t : Table} (h : Sound t) {places : ℕ} {s : State} {k : ℕ} {witness
     pub tried-held : T (standing witness k p) → (cut : Bool) → TriedAs t places s k p witness list count cut list (record { taken = true; on = witness; count = count; cut = cut })
     tried-held u cut = (refl, refl, refl, record { part = and-within (standing (s .on)) k p (standing witness) (w .good .part) u; whole = w .good .whole; keeps = w .good .keeps; clear = w .good .clear })
 
-    module _ {none new : List ℕ} (d : Sought) (x : SoughtIn t false 0 (andTask (standing (s .on)) k p) none 0 new d) where
+    -- it is interchangeable with a processor that was passed over
+    pub tried-twin : {cut : Bool} → PassedBelow t s k p list count cut → (T (standing witness k p) → ⊥) → (q : ℕ) → q < p → Interchangeable t s q p
+        → TriedAs t places s k p witness list count cut list (record { taken = false; on = witness; count = count; cut = cut })
+    tried-twin {cut} b f q a i = (record { refuted = swapped (LateSet (tasksIn t)) (b .refuted q a); ledger = w .ledger; grows = grows-refl; mark = mark cut (b .covered q a) }, f)
+      where
+        swapped : (B : (ℕ → Bool) → Type 0) → Refuted t B (Within (andTask (standing (s .on)) k q)) → Refuted t B (Within (andTask (standing (s .on)) k p))
+        swapped B = swap-refuted (w .fits) i B k
+
+        mark : (c : Bool) → (c ≡ false → Refuted t (Covered list count) (Within (andTask (standing (s .on)) k q))) → Marked t places (Within (andTask (standing (s .on)) k p)) c list count c
+        mark false g = (refl, swapped (Covered list count) (g refl))
+        mark true g = inl refl
+
+    module _ (d : Decided) (x : DecidedAs (d .found) t (andTask (standing (s .on)) k p) (d .on)) where
+      answered : (b : Bool) → d .found ≡ b → DecidedAs b t (andTask (standing (s .on)) k p) (d .on)
+      answered b e = subst (λ (c : Bool). DecidedAs c t (andTask (standing (s .on)) k p) (d .on)) e x
+
       -- one is found
       pub tried-found : d .found ≡ true → (cut : Bool) → TriedAs t places s k p witness list count cut list (record { taken = true; on = d .on; count = count; cut = cut })
-      tried-found e cut = (refl, refl, refl, subst (λ (b : Bool). Answers b t false 0 (andTask (standing (s .on)) k p) new (d .count) (d .on)) e (x .answer))
-
-      refuted : d .found ≡ false → Answers false t false 0 (andTask (standing (s .on)) k p) new (d .count) (d .on)
-      refuted e = subst (λ (b : Bool). Answers b t false 0 (andTask (standing (s .on)) k p) new (d .count) (d .on)) e (x .answer)
+      tried-found e cut = (refl, refl, refl, answered true e)
 
       -- none is there, and the list is cut already
       pub tried-passed : d .found ≡ false → (T (standing witness k p) → ⊥) → (cut : Bool) → cut ≡ true → TriedAs t places s k p witness list count cut list (record { taken = false; on = witness; count = count; cut = cut })
-      tried-passed e f cut c = (subst (λ (b : Bool). Settled t places (Within (andTask (standing (s .on)) k p)) list count b list count b) (sym c) (settled-passed (refuted e) (w .ledger)), f)
+      tried-passed e f cut c = (subst (λ (b : Bool). Settled t places (Within (andTask (standing (s .on)) k p)) list count b list count b) (sym c) (settled-passed (answered false e) (w .ledger)), f)
 
       -- none is there, and the conflicts are listed
-      pub tried-listed : d .found ≡ false → (T (standing witness k p) → ⊥) → (cut : Bool) → cut ≡ false → {list′ : List ℕ} (r : Sought) → SoughtIn t true places (andTask (standing (s .on)) k p) list count list′ r
-          → TriedAs t places s k p witness list count cut list′ (record { taken = false; on = witness; count = r .count; cut = r .found })
-      tried-listed e f cut c {list′} r y = (subst (λ (b : Bool). Settled t places (Within (andTask (standing (s .on)) k p)) list count b list′ (r .count) (r .found)) (sym c) (go (r .found) (y .answer)), f)
+      pub tried-listed : d .found ≡ false → (T (standing witness k p) → ⊥) → (cut : Bool) → cut ≡ false → {list′ : List ℕ} (r : Covering) → CoveringAs t places (andTask (standing (s .on)) k p) list count list′ r
+          → TriedAs t places s k p witness list count cut list′ (record { taken = false; on = witness; count = r .count; cut = r .cut })
+      tried-listed e f cut c {list′} r y = (subst (λ (b : Bool). Settled t places (Within (andTask (standing (s .on)) k p)) list count b list′ (r .count) (r .cut)) (sym c) (go (r .cut) (y .mark)), f)
         where
-          go : (b : Bool) → Answers b t true places (andTask (standing (s .on)) k p) list′ (r .count) (r .on) → Settled t places (Within (andTask (standing (s .on)) k p)) list count false list′ (r .count) b
-          go false a = settled-covered (refuted e) (y .ledger) (y .grows) a
-          go true a = settled-cut h (refuted e) (y .ledger) (y .grows) a
+          go : (b : Bool) → CutAs b t places (andTask (standing (s .on)) k p) list′ (r .count) → Settled t places (Within (andTask (standing (s .on)) k p)) list count false list′ (r .count) b
+          go false a = settled-covered (answered false e) (y .ledger) (y .grows) a
+          go true a = settled-cut h (answered false e) (y .ledger) (y .grows) (a .1)
 
   -- the rules allow a task where a good placement has it
   pub step-taken : {sets : List ℕ} (p : ℕ) → Witness t (InTime t) (andTask (standing (s .on)) k p) sets → (allowed : Bool) {next : State} → StepOf t s k p allowed next → Stepped t s k p next
@@ -119,6 +135,19 @@ module _ {t : Table} {places : ℕ} {s : State} {k : ℕ} {witness old : List �
   module _ {cut marked : Bool} {p at : ℕ} {list : List ℕ} (x : Passing t places s k witness old before cut p list at marked) where
     pub passing-placing : Placing t places s k witness list at
     passing-placing = record { fits = w .fits; ledger = x .settled .ledger; good = w .good; upto = w .upto; open-from = w .open-from; placed-below = w .placed-below }
+
+    pub passing-below : PassedBelow t s k p list at marked
+    passing-below = record {
+      refuted = λ q l e v u. x .settled .refuted e v (below q l e u);
+      covered = λ q l c e v u. mark marked c (x .settled .mark) e v (below q l e u);
+    }
+      where
+        below : (q : ℕ) → q < p → (e : List ℕ) → Within (andTask (standing (s .on)) k q) e → Within (standing (s .on)) e × (getD e k 0 < p)
+        below q l e u = (λ j r v. u j r (and-part (standing (s .on)) k q j r v), omega (arith, l, placed-is e k q (u k q (and-there (standing (s .on)) k q)) .1))
+
+        mark : (b : Bool) → b ≡ false → Marked t places (λ e. Within (standing (s .on)) e × (getD e k 0 < p)) cut list at b → Refuted t (Covered list at) (λ e. Within (standing (s .on)) e × (getD e k 0 < p))
+        mark false c m = m .1
+        mark true c m = absurd (true≢false c)
 
     module _ (new : List ℕ) (r : Tried) (y : TriedAs t places s k p witness list at marked new r) where
       -- task k is passed over on p

@@ -7,13 +7,13 @@ use lib.Dec.{T}
 use Rattle.mask.specs.Mask.{has}
 use Rattle.table.specs.declared.Table.{Table}
 use Rattle.schedule.specs.Periodic.{LateSet}
-use Rattle.rules.specs.Placement.{placed, andTask}
+use Rattle.rules.specs.Placement.{andTask}
 use Rattle.rules.specs.Sets.{standing}
 use Rattle.conflict.specs.Entry.{tasksIn}
-use Rattle.ledger.specs.Ledger.{Ledger}
+use Rattle.ledger.specs.Ledger.{Ledger, Covered}
 use Rattle.partial.specs.declared.State.{State}
 use Rattle.partial.specs.Partial.{Fits}
-use Rattle.region.specs.Region.{Within, Witness, Settled, Sooner}
+use Rattle.region.specs.Region.{Within, Refuted, Witness, Settled, Sooner}
 use Rattle.first.specs.declared.Tried.{Tried}
 use Rattle.first.specs.declared.Reached.{Reached}
 
@@ -29,6 +29,11 @@ pub record Placing (t : Table) (places : ℕ) (s : State) (k : ℕ) (witness lis
   pub upto : k ≤ t .tasks .count
   pub open-from : (j : ℕ) → k ≤ j → j < t .tasks .count → T (has (s .left) j)
   pub placed-below : (j : ℕ) → j < k → T (has (s .left) j) → ⊥
+
+-- the processors below p were passed over for task k: no placement with it there is good, and unless the list is cut each that keeps the rules holds a listed conflict
+pub record PassedBelow (t : Table) (s : State) (k p : ℕ) (list : List ℕ) (count : ℕ) (cut : Bool) : Type 0 where
+  pub refuted : (q : ℕ) → q < p → Refuted t (LateSet (tasksIn t)) (Within (andTask (standing (s .on)) k q))
+  pub covered : (q : ℕ) → q < p → cut ≡ false → Refuted t (Covered list count) (Within (andTask (standing (s .on)) k q))
 
 -- task k on processor p: taken, since a good placement has it there; or every placement that has it there is settled
 abbrev pub TriesAs : Bool → Table → ℕ → State → ℕ → ℕ → List ℕ → List ℕ → ℕ → Bool → List ℕ → Tried → Type 0

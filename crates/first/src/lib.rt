@@ -1,9 +1,18 @@
 // The search of document 01 for the first placement: task by task, processors in rising number.
-ghost use mathlib.Core.Path.{_≡_};
-ghost use Prim.Native.Nat.{_<_};
+ghost use mathlib.Core.Bool.{true};
+ghost use Prim.Native.Nat.{_≤_, _<_};
+ghost use lib.Dec.{T};
+ghost use lib.ListN.{length};
+ghost use Rattle.mask.specs.Mask.{has};
 ghost use Rattle.table.specs.declared.Table.{Table};
+ghost use Rattle.rules.specs.Placement.{andTask};
+ghost use Rattle.rules.specs.Sets.{standing};
 ghost use Rattle.region.specs.Lends.{Lends};
-ghost use Rattle.first.specs.First.{Placing, TriedAs, FirstOf};
+ghost use Rattle.region.specs.Begins.{Begins, Ready};
+ghost use Rattle.deciding.specs.Deciding.{DecidedAs, CoveringAs};
+ghost use Rattle.first.specs.First.{Placing, PassedBelow, TriedAs, FirstOf};
+use deciding::Covering;
+use deciding::Decided;
 use partial::Sizes;
 use partial::State;
 
@@ -22,9 +31,8 @@ pub struct Reached {
     pub cut: bool,
 }
 
-// Task k on processor p. It is taken where a good placement has it there: the one at hand, or one that is found.
-// Otherwise the region is passed over, and its conflicts are listed unless the list is cut already.
-fn try_processor<'a>(
+// Whether a good placement has task k on processor p.
+fn decide_on<'a>(
     work: &'a [u32; 24],
     period: &'a [u32; 24],
     deadline: &'a [u32; 24],
@@ -38,31 +46,20 @@ fn try_processor<'a>(
     receiver: &'a [u32; 64],
     loads: &'a [u64; 24],
     amounts: &'a [u64; 64],
+    guide: &'a [u32; 120],
     sizes: Sizes,
     s: State,
     k: usize,
     p: usize,
-    witness: [u32; 8],
-    list: &mut [u8],
-    places: usize,
-    count: usize,
-    cut: bool,
-) -> Tried
-    requires { ⌜ ((t : Table) × Lends t sizes (now work) (now period) (now deadline) (now priority) (now higher) (now residence) (now memory) (now exclusions) (now co) (now sender) (now receiver) (now loads) (now amounts) × Placing t places s k witness (now list) count) × (k < sizes .tasks) × (p < sizes .processors) ⌝ }
+    notes: &mut [u32],
+) -> Decided
+    requires { ⌜ ((t : Table) × Lends t sizes (now work) (now period) (now deadline) (now priority) (now higher) (now residence) (now memory) (now exclusions) (now co) (now sender) (now receiver) (now loads) (now amounts) × Ready t s) × T (has (s .left) k) × (p < sizes .processors) × (64 ≤ length (now notes)) ⌝ }
     ensures { λ r. ⌜ ((t : Table) → Lends t sizes (now (work .entry)) (now (period .entry)) (now (deadline .entry)) (now (priority .entry)) (now (higher .entry)) (now (residence .entry)) (now (memory .entry)) (now (exclusions .entry)) (now (co .entry)) (now (sender .entry)) (now (receiver .entry)) (now (loads .entry)) (now (amounts .entry))
-        → Placing t places s k witness (now (list .entry)) count → TriedAs t places s k p witness (now (list .entry)) count cut (now (list .exit)) r) ⌝ }
+        → Ready t s → DecidedAs (r .found) t (andTask (standing (s .on)) k p) (r .on)) ⌝ }
 {
-    if mask::has(witness[p], k) {
-        return Tried {
-            taken: true,
-            on: witness,
-            count,
-            cut,
-        };
-    }
     // Deciding lists nothing: it is lent a list without places.
     let mut no_list = [0u8; 3];
-    let decided = seek::explore(
+    let entered = seek::enter(
         work,
         period,
         deadline,
@@ -85,24 +82,62 @@ fn try_processor<'a>(
         0,
         0,
     );
-    if decided.found {
-        let on = decided.on;
-        return Tried {
-            taken: true,
-            on,
-            count,
-            cut,
-        };
+    let next = entered.next;
+    if !entered.passes {
+        let on = s.on;
+        return Decided { found: false, on };
     }
-    if cut {
-        return Tried {
-            taken: false,
-            on: witness,
-            count,
-            cut,
-        };
-    }
-    let listed = seek::explore(
+    deciding::decide(
+        work,
+        period,
+        deadline,
+        priority,
+        higher,
+        residence,
+        memory,
+        exclusions,
+        co,
+        sender,
+        receiver,
+        loads,
+        amounts,
+        guide,
+        sizes,
+        next,
+        notes,
+    )
+}
+
+// The region of task k on processor p, which has no good placement, is passed over: its conflicts are listed.
+fn pass_over<'a>(
+    work: &'a [u32; 24],
+    period: &'a [u32; 24],
+    deadline: &'a [u32; 24],
+    priority: &'a [u32; 24],
+    higher: &'a [u32; 24],
+    residence: &'a [u32; 24],
+    memory: &'a [u32; 24],
+    exclusions: &'a [u32; 24],
+    co: &'a [u32; 16],
+    sender: &'a [u32; 64],
+    receiver: &'a [u32; 64],
+    loads: &'a [u64; 24],
+    amounts: &'a [u64; 64],
+    guide: &'a [u32; 120],
+    sizes: Sizes,
+    s: State,
+    k: usize,
+    p: usize,
+    list: &mut [u8],
+    places: usize,
+    count: usize,
+    notes: &mut [u32],
+) -> Covering
+    requires { ⌜ ((t : Table) × Lends t sizes (now work) (now period) (now deadline) (now priority) (now higher) (now residence) (now memory) (now exclusions) (now co) (now sender) (now receiver) (now loads) (now amounts) × Begins t true places s (now list) count) × T (has (s .left) k) × (p < sizes .processors) × (64 ≤ length (now notes)) ⌝ }
+    ensures { λ r. ⌜ ((t : Table) → Lends t sizes (now (work .entry)) (now (period .entry)) (now (deadline .entry)) (now (priority .entry)) (now (higher .entry)) (now (residence .entry)) (now (memory .entry)) (now (exclusions .entry)) (now (co .entry)) (now (sender .entry)) (now (receiver .entry)) (now (loads .entry)) (now (amounts .entry))
+        → Begins t true places s (now (list .entry)) count → CoveringAs t places (andTask (standing (s .on)) k p) (now (list .entry)) count (now (list .exit)) r) ⌝ }
+{
+    let entered = seek::enter(
         work,
         period,
         deadline,
@@ -125,11 +160,153 @@ fn try_processor<'a>(
         places,
         count,
     );
+    let next = entered.next;
+    if !entered.passes {
+        return Covering {
+            cut: false,
+            count: entered.count,
+        };
+    }
+    deciding::cover(
+        work,
+        period,
+        deadline,
+        priority,
+        higher,
+        residence,
+        memory,
+        exclusions,
+        co,
+        sender,
+        receiver,
+        loads,
+        amounts,
+        guide,
+        sizes,
+        next,
+        list,
+        places,
+        entered.count,
+        notes,
+    )
+}
+
+// Task k on processor p. It is taken where a good placement has it there: the one at hand, or one that is found.
+// Otherwise the region is passed over, and its conflicts are listed unless the list is cut already.
+// Where p is interchangeable with a lower processor, which was passed over, that holds of p too.
+fn try_processor<'a>(
+    work: &'a [u32; 24],
+    period: &'a [u32; 24],
+    deadline: &'a [u32; 24],
+    priority: &'a [u32; 24],
+    higher: &'a [u32; 24],
+    residence: &'a [u32; 24],
+    memory: &'a [u32; 24],
+    exclusions: &'a [u32; 24],
+    co: &'a [u32; 16],
+    sender: &'a [u32; 64],
+    receiver: &'a [u32; 64],
+    loads: &'a [u64; 24],
+    amounts: &'a [u64; 64],
+    guide: &'a [u32; 120],
+    sizes: Sizes,
+    s: State,
+    k: usize,
+    p: usize,
+    witness: [u32; 8],
+    list: &mut [u8],
+    places: usize,
+    count: usize,
+    cut: bool,
+    notes: &mut [u32],
+) -> Tried
+    requires { ⌜ ((t : Table) × Lends t sizes (now work) (now period) (now deadline) (now priority) (now higher) (now residence) (now memory) (now exclusions) (now co) (now sender) (now receiver) (now loads) (now amounts) × Placing t places s k witness (now list) count × PassedBelow t s k p (now list) count cut) × (k < sizes .tasks) × (p < sizes .processors) × (64 ≤ length (now notes)) ⌝ }
+    ensures { λ r. ⌜ ((t : Table) → Lends t sizes (now (work .entry)) (now (period .entry)) (now (deadline .entry)) (now (priority .entry)) (now (higher .entry)) (now (residence .entry)) (now (memory .entry)) (now (exclusions .entry)) (now (co .entry)) (now (sender .entry)) (now (receiver .entry)) (now (loads .entry)) (now (amounts .entry))
+        → Placing t places s k witness (now (list .entry)) count → PassedBelow t s k p (now (list .entry)) count cut → TriedAs t places s k p witness (now (list .entry)) count cut (now (list .exit)) r) ⌝ }
+{
+    if mask::has(witness[p], k) {
+        return Tried {
+            taken: true,
+            on: witness,
+            count,
+            cut,
+        };
+    }
+    if twin::twin(residence, memory, loads, s, p) < p {
+        return Tried {
+            taken: false,
+            on: witness,
+            count,
+            cut,
+        };
+    }
+    let decided = decide_on(
+        work,
+        period,
+        deadline,
+        priority,
+        higher,
+        residence,
+        memory,
+        exclusions,
+        co,
+        sender,
+        receiver,
+        loads,
+        amounts,
+        guide,
+        sizes,
+        s,
+        k,
+        p,
+        notes,
+    );
+    if decided.found {
+        let on = decided.on;
+        return Tried {
+            taken: true,
+            on,
+            count,
+            cut,
+        };
+    }
+    if cut {
+        return Tried {
+            taken: false,
+            on: witness,
+            count,
+            cut,
+        };
+    }
+    let listed = pass_over(
+        work,
+        period,
+        deadline,
+        priority,
+        higher,
+        residence,
+        memory,
+        exclusions,
+        co,
+        sender,
+        receiver,
+        loads,
+        amounts,
+        guide,
+        sizes,
+        s,
+        k,
+        p,
+        list,
+        places,
+        count,
+        notes,
+    );
     Tried {
         taken: false,
         on: witness,
         count: listed.count,
-        cut: listed.found,
+        cut: listed.cut,
     }
 }
 
@@ -148,6 +325,7 @@ pub fn first<'a>(
     receiver: &'a [u32; 64],
     loads: &'a [u64; 24],
     amounts: &'a [u64; 64],
+    guide: &'a [u32; 120],
     sizes: Sizes,
     s: State,
     k: usize,
@@ -156,8 +334,9 @@ pub fn first<'a>(
     places: usize,
     count: usize,
     cut: bool,
+    notes: &mut [u32],
 ) -> Reached
-    requires { ⌜ ((t : Table) × Lends t sizes (now work) (now period) (now deadline) (now priority) (now higher) (now residence) (now memory) (now exclusions) (now co) (now sender) (now receiver) (now loads) (now amounts) × Placing t places s k witness (now list) count) ⌝ }
+    requires { ⌜ ((t : Table) × Lends t sizes (now work) (now period) (now deadline) (now priority) (now higher) (now residence) (now memory) (now exclusions) (now co) (now sender) (now receiver) (now loads) (now amounts) × Placing t places s k witness (now list) count) × (64 ≤ length (now notes)) ⌝ }
     ensures { λ r. ⌜ ((t : Table) → Lends t sizes (now (work .entry)) (now (period .entry)) (now (deadline .entry)) (now (priority .entry)) (now (higher .entry)) (now (residence .entry)) (now (memory .entry)) (now (exclusions .entry)) (now (co .entry)) (now (sender .entry)) (now (receiver .entry)) (now (loads .entry)) (now (amounts .entry))
         → Placing t places s k witness (now (list .entry)) count → FirstOf t places s (now (list .entry)) count cut (now (list .exit)) r) ⌝ }
 {
@@ -183,6 +362,7 @@ pub fn first<'a>(
             receiver,
             loads,
             amounts,
+            guide,
             sizes,
             s,
             k,
@@ -192,6 +372,7 @@ pub fn first<'a>(
             places,
             at,
             marked,
+            notes,
         );
         at = tried.count;
         marked = tried.cut;
@@ -226,6 +407,7 @@ pub fn first<'a>(
                 receiver,
                 loads,
                 amounts,
+                guide,
                 sizes,
                 next,
                 k + 1,
@@ -234,6 +416,7 @@ pub fn first<'a>(
                 places,
                 at,
                 marked,
+                notes,
             );
         }
         p += 1;

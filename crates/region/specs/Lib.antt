@@ -1,2 +1,3 @@
 pub mod Region
 pub mod Lends
+pub mod Begins

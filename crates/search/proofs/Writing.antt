@@ -28,10 +28,11 @@ use Rattle.region.specs.Region.{Witness, Settled, Sooner}
 use Rattle.region.proofs.Filling.{placed-at, placed-is, whole-placement}
 use Rattle.search.specs.declared.Answer.{Answer}
 use Rattle.search.specs.declared.Answer.the-variants.{Written}
-use Rattle.search.specs.declared.Ran.{Ran}
 use Rattle.search.specs.Search.{Lists}
 use Rattle.first.specs.First.{InTime}
-use Rattle.search.specs.Steps.{RunsAs, RanAs, HeadBy}
+use Rattle.run.specs.declared.Ran.{Ran}
+use Rattle.run.specs.Run.{RunsAs, RanAs}
+use Rattle.search.specs.Steps.{HeadBy}
 use Rattle.search.proofs.Answering.{AsList, witness-good, earlier-sooner, sooner-earlier, settled-listed, settled-mark, settled-room, settled-full}
 
 -- the first good placement is found, and q is the list of its processors

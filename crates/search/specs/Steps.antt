@@ -1,4 +1,4 @@
--- What the search on a table begins with, and what its parts leave.
+-- What the head of the answer is known to be.
 use mathlib.Core.Path.{_≡_}
 use mathlib.Core.Bool.{Bool, true, false}
 use mathlib.Core.List.{List}
@@ -9,25 +9,7 @@ use Rattle.rules.specs.Sets.{standing}
 use Rattle.judge.specs.Judge.{PlacementOf}
 use Rattle.answer.specs.Answer.{foundHead, noneHead}
 use Rattle.goal.specs.Goal.{headOf}
-use Rattle.partial.specs.declared.Sizes.{Sizes}
 use Rattle.partial.specs.Partial.{Whole}
-use Rattle.region.specs.Region.{Witness, Settled, Sooner}
-use Rattle.search.specs.declared.Ran.{Ran}
-use Rattle.first.specs.First.{InTime}
-
-pub record SizesOf (t : Table) (r : Sizes) : Type 0 where
-  pub tasks : r .tasks ≡ t .tasks .count
-  pub processors : r .processors ≡ t .processors .count
-  pub groups : r .groups ≡ t .co .count
-  pub messages : r .messages ≡ t .messages .count
-
--- the first good placement of all and every earlier one settled; or all placements settled
-abbrev pub RunsAs : Bool → Table → ℕ → List ℕ → List ℕ → Ran → Type 0
-RunsAs true t places old new r = Witness t (InTime t) (λ k p. false) (r .on) × Settled t places (Sooner (r .on)) old 0 false new (r .count) (r .cut)
-RunsAs false t places old new r = Settled t places (λ e. Unit {0}) old 0 false new (r .count) (r .cut)
-
-abbrev pub RanAs : Table → ℕ → List ℕ → List ℕ → Ran → Type 0
-RanAs t places old new r = RunsAs (r .found) t places old new r
 
 -- the head of the answer is known: by the sets of the placement, or that there is none
 abbrev pub HeadBy : Bool → Table → List ℕ → Type 0

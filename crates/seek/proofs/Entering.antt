@@ -2,7 +2,7 @@
 use mathlib.Core.Path.{_≡_, refl, sym, ap, subst, fun-ext, _∙_}
 use mathlib.Core.Bool.{Bool, true, false, not, _&&_, _||_}
 use mathlib.Core.List.{List}
-use Prim.Native.Nat.{ℕ, _<_}
+use Prim.Native.Nat.{ℕ}
 use native.Mathlib.Decide.{ℕ-discrete}
 use borrow.Author.Tests.{ne-eqb, not-true, not-false}
 use lib.Dec.{T, eqb}
@@ -16,14 +16,15 @@ use Rattle.rules.specs.Sets.{standing}
 use Rattle.conflict.specs.Entry.{tasksIn}
 use Rattle.judge.proofs.Limits.{valid-tasks, constrained-tasks}
 use Rattle.ledger.specs.declared.Tested.{Tested}
-use Rattle.ledger.specs.Ledger.{Ledger, Grows, Bad, Clear, Verdict, Noted}
+use Rattle.ledger.specs.Ledger.{Bad, Clear, Verdict, Noted}
 use Rattle.ledger.proofs.Growth.{grows-refl, grows-map}
 use Rattle.ledger.proofs.Verdicts.{bad-more, clear-grows}
 use Rattle.partial.specs.declared.State.{State}
 use Rattle.partial.specs.Partial.{Stepped, StepOf}
 use Rattle.region.specs.Region.{Within, Refuted, Met}
 use Rattle.region.proofs.Refuting.{refuted-broken, refuted-set, met-here}
-use Rattle.seek.specs.Seek.{Begins, EntersAs, EnteredAs}
+use Rattle.seek.specs.Seek.{EntersAs, EnteredAs}
+use Rattle.region.specs.Begins.{Begins}
 
 -- the set of a processor other than p
 other-set : (on : ℕ → ℕ → Bool) (k p r : ℕ) → (r ≡ p → ⊥) → (j : ℕ) → andTask on k p j r ≡ on j r

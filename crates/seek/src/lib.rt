@@ -1,21 +1,18 @@
 // The search below a partial placement, in two modes: whether a placement without a late set exists there; and which conflicts rule out all of them.
 ghost use mathlib.Core.Path.{_≡_};
-ghost use Prim.Native.Nat.{_<_};
+ghost use mathlib.Core.Bool.{true};
+ghost use mathlib.Core.Logic.{_⊎_};
+ghost use Prim.Native.Nat.{_+_, _≤_, _<_};
 ghost use lib.Dec.{T};
+ghost use lib.ListN.{length};
 ghost use Rattle.mask.specs.Mask.{has};
 ghost use Rattle.table.specs.declared.Table.{Table};
-ghost use Rattle.rules.specs.Placement.{andTask};
 ghost use Rattle.rules.specs.Sets.{standing};
 ghost use Rattle.region.specs.Lends.{Lends};
-ghost use Rattle.seek.specs.Seek.{Begins, BoundedAs, EnteredAs, SoughtIn};
+ghost use Rattle.region.specs.Begins.{Begins};
+ghost use Rattle.seek.specs.Seek.{EnteredAs, ExploredAs, SoughtIn};
 use partial::Sizes;
 use partial::State;
-
-// Whether a region is given up at once, and how many conflicts are listed then.
-pub struct Bounded {
-    pub hopeless: bool,
-    pub count: usize,
-}
 
 // A task on a processor: whether to go on from there, with which state, and how many conflicts are listed then.
 pub struct Entered {
@@ -24,15 +21,53 @@ pub struct Entered {
     pub count: usize,
 }
 
-// Whether a region has a placement, the tasks on each processor in it, and how many conflicts are listed then.
+// Whether a placement of a region was found, or none is known to be there; neither where the search gave up.
+// The tasks on each processor in the one that was found, and how many conflicts are listed then.
 pub struct Sought {
     pub found: bool,
+    pub none: bool,
     pub on: [u32; 8],
     pub count: usize,
 }
 
+// Whether the search gives up: it is limited, and its fuel is used up. Otherwise one unit is used.
+fn gives_up(limited: bool, notes: &mut [u32]) -> bool
+    requires { ⌜ 64 ≤ length (now notes) ⌝ }
+    ensures { λ r. ⌜ (r ≡ true → limited ≡ true) ⌝ }
+{
+    if !limited {
+        return false;
+    }
+    let fuel = notes[27];
+    if fuel == 0 {
+        return true;
+    }
+    notes[27] = fuel - 1;
+    false
+}
+
+// At which of m processors a round over all of them begins: any, so that a restart goes another way.
+fn offset(m: usize, notes: &mut [u32]) -> usize
+    requires { ⌜ (0 < m) × (64 ≤ length (now notes)) ⌝ }
+    ensures { λ r. ⌜ r < m ⌝ }
+{
+    branching::noise(notes) as usize % m
+}
+
+// The processor that is i places after the first, around all m.
+fn turned(first: usize, i: usize, m: usize) -> usize
+    requires { ⌜ (first < m) × (i < m) × (m ≤ 8) ⌝ }
+    ensures { λ r. ⌜ (r < m) × ((r ≡ first + i) ⊎ (r + m ≡ first + i)) ⌝ }
+{
+    let p = first + i;
+    if p < m {
+        return p;
+    }
+    p - m
+}
+
 // The open task k on processor p: tested by the rules, then for lateness.
-fn enter<'a>(
+pub fn enter<'a>(
     work: &'a [u32; 24],
     period: &'a [u32; 24],
     deadline: &'a [u32; 24],
@@ -101,8 +136,8 @@ fn enter<'a>(
     }
 }
 
-// A bound on the region below a state: whether it can be given up at once, and how many conflicts are listed then. None is tried yet.
-fn bound<'a>(
+// The region below the open task k on processor p. It is passed over where a lower processor can stand in for p.
+fn explore<'a>(
     work: &'a [u32; 24],
     period: &'a [u32; 24],
     deadline: &'a [u32; 24],
@@ -116,38 +151,7 @@ fn bound<'a>(
     receiver: &'a [u32; 64],
     loads: &'a [u64; 24],
     amounts: &'a [u64; 64],
-    sizes: Sizes,
-    s: State,
-    listing: bool,
-    list: &mut [u8],
-    places: usize,
-    count: usize,
-) -> Bounded
-    requires { ⌜ ((t : Table) × Lends t sizes (now work) (now period) (now deadline) (now priority) (now higher) (now residence) (now memory) (now exclusions) (now co) (now sender) (now receiver) (now loads) (now amounts) × Begins t listing places s (now list) count) ⌝ }
-    ensures { λ r. ⌜ ((t : Table) → Lends t sizes (now (work .entry)) (now (period .entry)) (now (deadline .entry)) (now (priority .entry)) (now (higher .entry)) (now (residence .entry)) (now (memory .entry)) (now (exclusions .entry)) (now (co .entry)) (now (sender .entry)) (now (receiver .entry)) (now (loads .entry)) (now (amounts .entry))
-        → Begins t listing places s (now (list .entry)) count → BoundedAs t listing places s (now (list .entry)) count (now (list .exit)) r) ⌝ }
-{
-    Bounded {
-        hopeless: false,
-        count,
-    }
-}
-
-// The region below the open task k on processor p.
-pub fn explore<'a>(
-    work: &'a [u32; 24],
-    period: &'a [u32; 24],
-    deadline: &'a [u32; 24],
-    priority: &'a [u32; 24],
-    higher: &'a [u32; 24],
-    residence: &'a [u32; 24],
-    memory: &'a [u32; 24],
-    exclusions: &'a [u32; 24],
-    co: &'a [u32; 16],
-    sender: &'a [u32; 64],
-    receiver: &'a [u32; 64],
-    loads: &'a [u64; 24],
-    amounts: &'a [u64; 64],
+    guide: &'a [u32; 120],
     sizes: Sizes,
     s: State,
     k: usize,
@@ -156,11 +160,22 @@ pub fn explore<'a>(
     list: &mut [u8],
     places: usize,
     count: usize,
+    limited: bool,
+    notes: &mut [u32],
 ) -> Sought
-    requires { ⌜ ((t : Table) × Lends t sizes (now work) (now period) (now deadline) (now priority) (now higher) (now residence) (now memory) (now exclusions) (now co) (now sender) (now receiver) (now loads) (now amounts) × Begins t listing places s (now list) count) × T (has (s .left) k) × (p < sizes .processors) ⌝ }
+    requires { ⌜ ((t : Table) × Lends t sizes (now work) (now period) (now deadline) (now priority) (now higher) (now residence) (now memory) (now exclusions) (now co) (now sender) (now receiver) (now loads) (now amounts) × Begins t listing places s (now list) count) × T (has (s .left) k) × (p < sizes .processors) × (64 ≤ length (now notes)) ⌝ }
     ensures { λ r. ⌜ ((t : Table) → Lends t sizes (now (work .entry)) (now (period .entry)) (now (deadline .entry)) (now (priority .entry)) (now (higher .entry)) (now (residence .entry)) (now (memory .entry)) (now (exclusions .entry)) (now (co .entry)) (now (sender .entry)) (now (receiver .entry)) (now (loads .entry)) (now (amounts .entry))
-        → Begins t listing places s (now (list .entry)) count → SoughtIn t listing places (andTask (standing (s .on)) k p) (now (list .entry)) count (now (list .exit)) r) ⌝ }
+        → Begins t listing places s (now (list .entry)) count → ExploredAs t listing limited places s k p (now (list .entry)) count (now (list .exit)) r) ⌝ }
 {
+    let on = s.on;
+    if twin::twin(residence, memory, loads, s, p) != p {
+        return Sought {
+            found: false,
+            none: true,
+            on,
+            count,
+        };
+    }
     let entered = enter(
         work,
         period,
@@ -185,9 +200,9 @@ pub fn explore<'a>(
         count,
     );
     if !entered.passes {
-        let on = s.on;
         return Sought {
             found: false,
+            none: true,
             on,
             count: entered.count,
         };
@@ -207,16 +222,19 @@ pub fn explore<'a>(
         receiver,
         loads,
         amounts,
+        guide,
         sizes,
         next,
         listing,
         list,
         places,
         entered.count,
+        limited,
+        notes,
     )
 }
 
-// The region below a state: its first open task by `pick`, on each processor.
+// The region below a state: an open task by `pick`, on each processor in turn. One that no processor can take is blamed.
 pub fn seek<'a>(
     work: &'a [u32; 24],
     period: &'a [u32; 24],
@@ -231,26 +249,38 @@ pub fn seek<'a>(
     receiver: &'a [u32; 64],
     loads: &'a [u64; 24],
     amounts: &'a [u64; 64],
+    guide: &'a [u32; 120],
     sizes: Sizes,
     s: State,
     listing: bool,
     list: &mut [u8],
     places: usize,
     count: usize,
+    limited: bool,
+    notes: &mut [u32],
 ) -> Sought
-    requires { ⌜ ((t : Table) × Lends t sizes (now work) (now period) (now deadline) (now priority) (now higher) (now residence) (now memory) (now exclusions) (now co) (now sender) (now receiver) (now loads) (now amounts) × Begins t listing places s (now list) count) ⌝ }
+    requires { ⌜ ((t : Table) × Lends t sizes (now work) (now period) (now deadline) (now priority) (now higher) (now residence) (now memory) (now exclusions) (now co) (now sender) (now receiver) (now loads) (now amounts) × Begins t listing places s (now list) count) × (64 ≤ length (now notes)) ⌝ }
     ensures { λ r. ⌜ ((t : Table) → Lends t sizes (now (work .entry)) (now (period .entry)) (now (deadline .entry)) (now (priority .entry)) (now (higher .entry)) (now (residence .entry)) (now (memory .entry)) (now (exclusions .entry)) (now (co .entry)) (now (sender .entry)) (now (receiver .entry)) (now (loads .entry)) (now (amounts .entry))
-        → Begins t listing places s (now (list .entry)) count → SoughtIn t listing places (standing (s .on)) (now (list .entry)) count (now (list .exit)) r) ⌝ }
+        → Begins t listing places s (now (list .entry)) count → SoughtIn t listing limited places (standing (s .on)) (now (list .entry)) count (now (list .exit)) r) ⌝ }
 {
     let on = s.on;
-    if s.left == 0 {
+    if gives_up(limited, notes) {
         return Sought {
-            found: true,
+            found: false,
+            none: false,
             on,
             count,
         };
     }
-    let bounded = bound(
+    if s.left == 0 {
+        return Sought {
+            found: true,
+            none: false,
+            on,
+            count,
+        };
+    }
+    let bounded = bound::bound(
         work,
         period,
         deadline,
@@ -264,16 +294,19 @@ pub fn seek<'a>(
         receiver,
         loads,
         amounts,
+        guide,
         sizes,
         s,
         listing,
         list,
         places,
         count,
+        notes,
     );
     if bounded.hopeless {
         return Sought {
             found: false,
+            none: true,
             on,
             count: bounded.count,
         };
@@ -292,12 +325,20 @@ pub fn seek<'a>(
         receiver,
         loads,
         amounts,
+        guide,
         sizes,
         s,
+        listing,
+        list,
+        places,
+        bounded.count,
+        notes,
     );
+    let first = offset(sizes.processors, notes);
     let mut at = bounded.count;
-    let mut p: usize = 0;
-    while p < sizes.processors {
+    let mut i: usize = 0;
+    while i < sizes.processors {
+        let p = turned(first, i, sizes.processors);
         let sought = explore(
             work,
             period,
@@ -312,6 +353,7 @@ pub fn seek<'a>(
             receiver,
             loads,
             amounts,
+            guide,
             sizes,
             s,
             k,
@@ -320,15 +362,19 @@ pub fn seek<'a>(
             list,
             places,
             at,
+            limited,
+            notes,
         );
-        if sought.found {
+        if !sought.none {
             return sought;
         }
         at = sought.count;
-        p += 1;
+        i += 1;
     }
+    branching::blame(notes, k);
     Sought {
         found: false,
+        none: true,
         on,
         count: at,
     }

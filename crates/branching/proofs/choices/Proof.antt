@@ -8,11 +8,11 @@ use Rattle.branching.proofs.choices.Statement.{statement}
 use Rattle.branching.proofs.choices.Tie as tie
 
 abbrev Inv-loop : tie.InvT-loop
-Inv-loop work period deadline priority higher residence memory exclusions co sender receiver loads amounts sizes k most s count₀ p₀ count p =
-    (p ≤ sizes .processors) × (count ≤ p)
+Inv-loop work period deadline priority higher residence memory exclusions co sender receiver loads amounts sizes k full list count s found₀ p₀ found p =
+    (p ≤ sizes .processors) × (found ≤ p)
 
 abbrev μ-loop : tie.MeasureT-loop
-μ-loop work period deadline priority higher residence memory exclusions co sender receiver loads amounts sizes k most s count₀ p₀ count p =
+μ-loop work period deadline priority higher residence memory exclusions co sender receiver loads amounts sizes k full list count s found₀ p₀ found p =
     sizes .processors - p
 
 pub choices-spec : {M : Type 1} → statement M
@@ -28,10 +28,9 @@ choices-spec =
     (λ c κs. let z = c .before .before .before .before .before .before .before .pre in omega (arith, open-low (z .0 .1) (z .0 .2) _ (z .1)))  -- insert-requires
     (λ c κs.
     let z = c .before .before .before .before .before .before .before .before .pre in
-    rw (c .insert .ensures) (limits-with (z .0 .1) (z .0 .2) _ (z .1) _))  -- is-late-requires
-    (λ c. search needs)  -- add-count
+    (rw (c .insert .ensures) (limits-with (z .0 .1) (z .0 .2) _ (z .1) _), z .2))  -- passed-over-requires
+    (λ c. search needs)  -- add-found
     (λ c. search needs)  -- add-p
     (λ c. search needs)  -- loop-less
-    (λ c. ⊎-elim (λ w. search needs) (⊎-elim (λ w. search needs) (λ w. search needs)) (c .if3 .came))  -- loop-again
-    (λ c. search needs)  -- returns
-    (λ c. search needs))  -- returns-2
+    (λ c. ⊎-elim (λ w. search needs) (⊎-elim (λ w. search needs) (λ w. search needs)) (c .if2 .came))  -- loop-again
+    (λ c. search needs))  -- returns

@@ -11,7 +11,7 @@ use Rattle.search.proofs.search_table.Lts as lts
 use Rattle.answer.proofs.places.Reads as places-reads
 use Rattle.answer.proofs.put_end.Reads as put-end-reads
 use Rattle.search.proofs.put_head.Reads as put-head-reads
-use Rattle.search.proofs.run_table.Reads as run-table-reads
+use Rattle.run.proofs.run_table.Reads as run-table-reads
 
 -- src/lib.rt:241:23
 add-if1 : tie.Need-add-if1

@@ -1,0 +1,129 @@
+-- Weights of sets of tasks: how large they are, one by another, an array of them filled place by place. Assumes nothing.
+use mathlib.Core.Path.{_≡_, sym, subst}
+use mathlib.Core.Logic.{_⊎_, ⊎-elim}
+use mathlib.Core.List.{List}
+use Prim.Native.Nat.{ℕ, _+_, _≤_, _<_}
+use native.Mathlib.Omega.{arith}
+use native.Mathlib.Decide.{ℕ-discrete, decLt}
+use lib.Dec.{T}
+use lib.ListN.{length, getD, set, replicate, getD-replicate, length-replicate, List·getD-eq-default}
+use lib.Seq.{getD-set-same, getD-set-other}
+use Rattle.finite.specs.Finite.{only}
+use Rattle.finite.proofs.Sum.{sum-zero, sum-le}
+use Rattle.finite.proofs.Only.{only-in, only-out, only-le, sum-bound}
+use Rattle.mask.specs.Mask.{has, below, Subset, removeOf}
+use Rattle.mask.proofs.Laws.{has-zero, below-has, remove-subset}
+use Rattle.partial.specs.declared.State.{State}
+use Rattle.packing.specs.Packing.{weightOf}
+use Rattle.packing.proofs.Taking.{weight-remove, weight-less}
+use Rattle.bound.specs.Weighing.{Light, Weights, TopAs}
+
+-- no task
+pub weight-none : (n : ℕ) (weights : List ℕ) → weightOf n weights 0 ≡ 0
+unfolding weightOf
+weight-none n weights = sum-zero n _ (λ k l. only-out (has 0 k) (getD weights k 0) (λ u. rw (has-zero k) at u))
+
+-- light weights are so small in all
+pub weight-small : (weights : List ℕ) (x : ℕ) → Light weights → weightOf 24 weights x ≤ 103079215080
+unfolding weightOf
+weight-small weights x light = sum-bound 24 _ 4294967295 (λ k l. only-le (has x k) (getD weights k 0) 4294967295 (λ u. omega (arith, light k)))
+
+-- smaller weights
+pub weight-by : (n : ℕ) (a b : List ℕ) (x : ℕ) → ((k : ℕ) → getD a k 0 ≤ getD b k 0) → weightOf n a x ≤ weightOf n b x
+unfolding weightOf
+weight-by n a b x f = sum-le n _ _ (λ k l. only-le (has x k) (getD a k 0) (only (has x k) (getD b k 0)) (λ u. omega (arith, only-in (has x k) (getD b k 0) u, f k)))
+
+-- what holds at every place holds after a store of a number of which it holds
+pub set-all : (P : ℕ → ℕ → Type 0) (l : List ℕ) (i v : ℕ) → i < length l → ((j : ℕ) → P j (getD l j 0)) → P i v → (j : ℕ) → P j (getD (set l i v) j 0)
+set-all P l i v low f h j = go (ℕ-discrete j i)
+  where
+    go : Dec (j ≡ i) → P j (getD (set l i v) j 0)
+    go (yes e) = subst (λ (x : ℕ). P x (getD (set l i v) x 0)) (sym e) (subst (P i) (sym (getD-set-same l i v 0 low)) h)
+    go (no e) = subst (P j) (sym (getD-set-other l i j v 0 e)) (f j)
+
+-- an array of zeros
+zeros : (n k : ℕ) → getD (replicate n 0) k 0 ≤ 0
+zeros n k = go (decLt k n)
+  where
+    go : Dec (k < n) → getD (replicate n 0) k 0 ≤ 0
+    go (yes l) = omega (arith, getD-replicate {A = ℕ} n k 0 0 l)
+    go (no l) = omega (arith, List·getD-eq-default {A = ℕ} (replicate n 0) 0 {n = k} (simp length-replicate (omega arith)))
+
+-- no weights
+pub weights-start : {memory loads : List ℕ} {row : ℕ} → Weights memory loads row (replicate 24 0)
+weights-start = record { light = λ k. omega (arith, zeros 24 k); by-load = λ e k. omega (arith, zeros 24 k); by-memory = λ e k. omega (arith, zeros 24 k) }
+
+-- one weight more
+pub weights-next : {memory loads : List ℕ} {row : ℕ} {weights : List ℕ} {k v : ℕ} → Weights memory loads row weights → k < length weights
+    → (v < 4294967296) × (row ≡ 0 → v ≤ getD loads k 0) × (row ≡ 1 → v ≤ getD memory k 0) → Weights memory loads row (set weights k v)
+weights-next {memory} {loads} {row} {weights} {k} {v} w l f = record {
+  light = set-all (λ j x. x < 4294967296) weights k v l (w .light) (f .0);
+  by-load = λ e. set-all (λ j x. x ≤ getD loads j 0) weights k v l (w .by-load e) (f .1 e);
+  by-memory = λ e. set-all (λ j x. x ≤ getD memory j 0) weights k v l (w .by-memory e) (f .2 e);
+}
+
+-- ---- the sum over a set, task by task
+
+-- so much is summed, and these are left
+pub record Sum (weights : List ℕ) (all sum left : ℕ) : Type 0 where
+  pub inside : Subset left all
+  pub value : (n : ℕ) → T (below n all) → sum + weightOf n weights left ≡ weightOf n weights all
+
+pub sum-start : {weights : List ℕ} {all : ℕ} → Sum weights all 0 all
+sum-start = record { inside = λ k u. u; value = λ n b. omega arith }
+
+module _ {weights : List ℕ} {all sum left : ℕ} (w : Sum weights all sum left) where
+  pub sum-fits : (k : ℕ) → T (has left k) → T (below 24 all) → Light weights → sum + getD weights k 0 ≤ 103079215080
+  sum-fits k u b light = omega (arith, w .value 24 b, weight-small weights all light, weight-remove 24 weights left k (below-has 24 all b k (w .inside k u)) u)
+
+  pub sum-next : (k : ℕ) → T (has left k) → Sum weights all (sum + getD weights k 0) (removeOf left k)
+  sum-next k u = record {
+    inside = λ j v. w .inside j (remove-subset left k j v);
+    value = λ n b. omega (arith, w .value n b, weight-remove n weights left k (below-has n all b k (w .inside k u)) u);
+  }
+
+  pub sum-end : left ≡ 0 → (n : ℕ) → T (below n all) → sum ≡ weightOf n weights all
+  sum-end e n b = omega (arith, rw e at (w .value n b), weight-none n weights)
+
+-- ---- a bound on what a processor can take
+
+module _ (weights : List ℕ) {all : ℕ} (set : ℕ) (h : (n : ℕ) → T (below n set) → all ≡ weightOf n weights set) where
+  within-all : (n : ℕ) → T (below n set) → (x : ℕ) → Subset x set → weightOf n weights x ≤ all
+  within-all n b x f = omega (arith, weight-less n weights x set f, h n b)
+
+  pub top-all : {row space spare : ℕ} → all ≤ 103079215080 → TopAs weights set row space spare all
+  top-all l = record { small = l; bounds = λ n memory loads w b x f m o. within-all n b x f }
+
+  -- or, in row 0, by what is left of its load
+  pub top-load : {row space spare r : ℕ} → row ≡ 0 → all ≤ 103079215080 → (r ≤ all) × (r ≤ spare) × ((r ≡ all) ⊎ (r ≡ spare)) → TopAs weights set row space spare r
+  top-load {r = r} e l (a, c, d) = record {
+    small = omega arith;
+    bounds = λ n memory loads w b x f m o. ⊎-elim (λ i. omega (arith, within-all n b x f)) (λ i. omega (arith, weight-by n weights loads x (w .by-load e))) d;
+  }
+
+  -- in row 1, of its memory
+  pub top-memory : {row space spare r : ℕ} → row ≡ 1 → all ≤ 103079215080 → (r ≤ all) × (r ≤ space) × ((r ≡ all) ⊎ (r ≡ space)) → TopAs weights set row space spare r
+  top-memory {r = r} e l (a, c, d) = record {
+    small = omega arith;
+    bounds = λ n memory loads w b x f m o. ⊎-elim (λ i. omega (arith, within-all n b x f)) (λ i. omega (arith, weight-by n weights memory x (w .by-memory e))) d;
+  }
+
+-- ---- such a bound for one processor after the other
+
+pub record Topping (weights sets : List ℕ) (row : ℕ) (s : State) (p : ℕ) (tops : List ℕ) : Type 0 where
+  pub small : (r : ℕ) → getD tops r 0 ≤ 103079215080
+  pub bounds : (r : ℕ) → r < p → TopAs weights (getD sets r 0) row (getD (s .memory) r 0) (getD (s .load) r 0) (getD tops r 0)
+
+pub topping-start : {weights sets : List ℕ} {row : ℕ} {s : State} → Topping weights sets row s 0 (replicate 8 0)
+topping-start = record { small = none; bounds = λ r l. absurd (omega arith) }
+  where
+    none : (r : ℕ) → getD (replicate 8 0) r 0 ≤ 103079215080
+    none r = omega (arith, zeros 8 r)
+
+pub topping-next : {weights sets : List ℕ} {row : ℕ} {s : State} {p : ℕ} {tops : List ℕ} {v : ℕ} → Topping weights sets row s p tops → p < length tops
+    → TopAs weights (getD sets p 0) row (getD (s .memory) p 0) (getD (s .load) p 0) v → Topping weights sets row s (p + 1) (set tops p v)
+topping-next {weights} {sets} {row} {s} {p} {tops} {v} w low a = record { small = set-all (λ r x. x ≤ 103079215080) tops p v low (w .small) (a .small); bounds = λ r l. go r l (ℕ-discrete r p) }
+  where
+    go : (r : ℕ) → r < p + 1 → Dec (r ≡ p) → TopAs weights (getD sets r 0) row (getD (s .memory) r 0) (getD (s .load) r 0) (getD (set tops p v) r 0)
+    go r l (yes e) = rw (e, getD-set-same tops p v 0 low) a
+    go r l (no e) = rw (getD-set-other tops p r v 0 e) (w .bounds r (omega arith))

@@ -1,0 +1,129 @@
+-- The weight bound: which open tasks each processor can take, and how much of their weight at most.
+use mathlib.Core.Path.{_≡_}
+use mathlib.Core.Bool.{Bool, true, false, not, _&&_, _||_}
+use mathlib.Core.List.{List}
+use Prim.Native.Nat.{ℕ, _≤_, _<_}
+use lib.Dec.{T}
+use lib.ListN.{getD}
+use Rattle.finite.specs.Finite.{only, sumTo, someBelow}
+use Rattle.mask.specs.Mask.{has, below, Subset}
+use Rattle.table.specs.declared.Table.{Table}
+use Rattle.rules.specs.Placement.{placed}
+use Rattle.rules.specs.Rules.{Keeps}
+use Rattle.rules.specs.Sets.{standing}
+use Rattle.conflict.specs.Entry.{tasksIn}
+use Rattle.judge.specs.Judge.{PlacementOf}
+use Rattle.columns.specs.Columns.{loadsOf, exclusionsOf}
+use Rattle.partial.specs.declared.State.{State}
+use Rattle.ledger.specs.Ledger.{Ledger, Grows, Bad}
+use Rattle.region.specs.Region.{Within, Met}
+use Rattle.packing.specs.declared.Packed.{Packed}
+use Rattle.packing.specs.Packing.{weightOf, joined, Takes}
+use Rattle.bound.specs.declared.Joining.{Joining}
+use Rattle.bound.specs.declared.Chosen.{Chosen}
+use Rattle.bound.specs.declared.Offered.{Offered}
+
+-- ---- the candidates of a processor
+
+-- a placement of the region that keeps the rules, none of whose sets is of the kind B
+pub record Fair (t : Table) (s : State) (B : (ℕ → Bool) → Type 0) (q : List ℕ) : Type 0 where
+  pub whole : PlacementOf t q
+  pub inside : Within (standing (s .on)) q
+  pub keeps : Keeps t (placed q)
+  pub clear : (p : ℕ) → p < t .processors .count → B (λ k. placed q k p) → ⊥
+
+-- what the test of the open task k on processor p leaves: it may reside there, or no fair placement has it there
+pub record JoinsAs (t : Table) (listing : Bool) (places : ℕ) (s : State) (k p : ℕ) (old : List ℕ) (before : ℕ) (new : List ℕ) (r : Joining) : Type 0 where
+  pub ledger : Ledger (tasksIn t) places new (r .count)
+  pub grows : Grows (Met t (Within (standing (s .on)))) old before new (r .count)
+  pub able : r .able ≡ true → T (has (getD (t .tasks .residence) k 0) p)
+  pub unable : r .able ≡ false → (q : List ℕ) → Fair t s (Bad (tasksIn t) listing new (r .count)) q → T (placed q k p) → ⊥
+
+-- open tasks that may reside on p
+pub record Eligible (t : Table) (s : State) (p set : ℕ) : Type 0 where
+  pub waits : Subset set (s .left)
+  pub resides : (k : ℕ) → T (has set k) → T (has (getD (t .tasks .residence) k 0) p)
+
+-- and all that a fair placement has there are among them
+pub record Choice (t : Table) (s : State) (B : (ℕ → Bool) → Type 0) (p set : ℕ) : Type 0 where
+  pub eligible : Eligible t s p set
+  pub complete : (q : List ℕ) → Fair t s B q → (k : ℕ) → T (has (s .left) k) → T (placed q k p) → T (has set k)
+
+pub record ChosenAs (t : Table) (listing : Bool) (places : ℕ) (s : State) (p : ℕ) (old : List ℕ) (before : ℕ) (new : List ℕ) (r : Chosen) : Type 0 where
+  pub ledger : Ledger (tasksIn t) places new (r .count)
+  pub grows : Grows (Met t (Within (standing (s .on)))) old before new (r .count)
+  pub choice : Choice t s (Bad (tasksIn t) listing new (r .count)) p (r .set)
+
+-- the candidates of each processor
+abbrev pub Choices : Table → State → ((ℕ → Bool) → Type 0) → List ℕ → Type 0
+Choices t s B sets = (p : ℕ) → p < t .processors .count → Choice t s B p (getD sets p 0)
+
+pub record OfferedAs (t : Table) (listing : Bool) (places : ℕ) (s : State) (old : List ℕ) (before : ℕ) (new : List ℕ) (r : Offered) : Type 0 where
+  pub ledger : Ledger (tasksIn t) places new (r .count)
+  pub grows : Grows (Met t (Within (standing (s .on)))) old before new (r .count)
+  pub choices : Choices t s (Bad (tasksIn t) listing new (r .count)) (r .sets)
+
+-- ---- weights
+
+-- small numbers, so that sums of them fit
+abbrev pub Light : List ℕ → Type 0
+Light weights = (k : ℕ) → getD weights k 0 < 4294967296
+
+-- weights of a row: any small numbers; in row 0 no more than the loads, in row 1 than the memory
+pub record Weights (memory loads : List ℕ) (row : ℕ) (weights : List ℕ) : Type 0 where
+  pub light : Light weights
+  pub by-load : row ≡ 0 → (k : ℕ) → getD weights k 0 ≤ getD loads k 0
+  pub by-memory : row ≡ 1 → (k : ℕ) → getD weights k 0 ≤ getD memory k 0
+
+-- r bounds the weight of the sets x among the candidates whose memory and load suffice
+pub record TopAs (weights : List ℕ) (set row space spare r : ℕ) : Type 0 where
+  pub small : r ≤ 103079215080
+  pub bounds : (n : ℕ) (memory loads : List ℕ) → Weights memory loads row weights → T (below n set)
+      → (x : ℕ) → Subset x set → weightOf n memory x ≤ space → weightOf n loads x ≤ spare → weightOf n weights x ≤ r
+
+-- processor r can take whatever p can
+pub record Covers (s : State) (sets : List ℕ) (r p : ℕ) : Type 0 where
+  pub same-on : getD (s .on) p 0 ≡ getD (s .on) r 0
+  pub same-set : getD sets p 0 ≡ getD sets r 0
+  pub memory : getD (s .memory) p 0 ≤ getD (s .memory) r 0
+  pub load : getD (s .load) p 0 ≤ getD (s .load) r 0
+
+-- the candidates x can join the tasks on p
+pub record Joins (t : Table) (s : State) (B : (ℕ → Bool) → Type 0) (sets : List ℕ) (p x : ℕ) : Type 0 where
+  pub inside : Subset x (getD sets p 0)
+  pub takes : Takes (t .tasks .count) (t .tasks .memory) (exclusionsOf t) (loadsOf t) B (getD (s .on) p 0) (getD (s .memory) p 0) (getD (s .load) p 0) x
+
+-- top bounds the weight of what can join the tasks on p
+abbrev pub Bounds : Table → State → ((ℕ → Bool) → Type 0) → List ℕ → List ℕ → ℕ → ℕ → Type 0
+Bounds t s B weights sets p top = (x : ℕ) → Joins t s B sets p x → weightOf (t .tasks .count) weights x ≤ top
+
+-- such a bound for each processor, small enough for a sum of them
+pub record Tops (t : Table) (s : State) (B : (ℕ → Bool) → Type 0) (weights sets tops : List ℕ) : Type 0 where
+  pub small : (p : ℕ) → getD tops p 0 ≤ 103079215080
+  pub bounds : (p : ℕ) → p < t .processors .count → Bounds t s B weights sets p (getD tops p 0)
+
+-- a bound for p that is no larger than before
+pub record TightAs (t : Table) (listing : Bool) (places : ℕ) (s : State) (weights sets tops : List ℕ) (p : ℕ) (old : List ℕ) (before : ℕ) (new : List ℕ) (r : Packed) : Type 0 where
+  pub ledger : Ledger (tasksIn t) places new (r .count)
+  pub grows : Grows (Met t (Within (standing (s .on)))) old before new (r .count)
+  pub no-more : r .most ≤ getD tops p 0
+  pub bounds : Bounds t s (Bad (tasksIn t) listing new (r .count)) weights sets p (r .most)
+
+-- ---- the network
+
+-- one of the two tasks is open, and they cannot meet: they are excluded from each other, or no processor has or can take both
+abbrev pub mustCross : List ℕ → State → List ℕ → ℕ → ℕ → ℕ → Bool
+mustCross exclusions s sets m from to =
+    (has (s .left) from || has (s .left) to)
+    && (has (getD exclusions from 0) to || not (someBelow m (λ p. joined (getD (s .on) p 0) (getD sets p 0) from && joined (getD (s .on) p 0) (getD sets p 0) to)))
+
+-- what the messages between such tasks amount to
+unfoldable pub crossingOf : List ℕ → List ℕ → List ℕ → List ℕ → ℕ → State → List ℕ → ℕ → ℕ
+crossingOf exclusions sender receiver amounts messages s sets m = sumTo messages (λ j. only (mustCross exclusions s sets m (getD sender j 0) (getD receiver j 0)) (getD amounts j 0))
+
+-- messages between tasks, small enough that their sum fits
+pub record Carried (sender receiver amounts : List ℕ) (messages : ℕ) : Type 0 where
+  pub few : messages ≤ 64
+  pub from-task : (j : ℕ) → j < messages → getD sender j 0 < 24
+  pub to-task : (j : ℕ) → j < messages → getD receiver j 0 < 24
+  pub small : (j : ℕ) → j < messages → getD amounts j 0 ≤ 1000000000000000

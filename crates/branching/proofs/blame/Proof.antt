@@ -1,0 +1,19 @@
+-- One element is written.
+use mathlib.Core.Path.{ap}
+use Prim.Native.Nat.{ℕ}
+use borrow.Author.Needs.{needs}
+use lib.ListN.{set}
+use Rattle.branching.proofs.blame.Statement.{statement}
+use Rattle.branching.proofs.blame.Tie as tie
+
+pub blame-spec : {M : Type 1} → statement M
+blame-spec =
+    tie.close
+    (tie.spec
+    (λ c. search needs)  -- mul-heavier
+    (λ c. search needs)  -- slice-read-heavier
+    (λ c κs. search needs)  -- heavier-requires
+    (λ c. search needs)  -- mul-notes
+    (λ c. search needs)  -- slice-write-notes
+    (λ c. search needs)  -- same-length
+    (λ c. let a = c .before .before .before .args in ap (λ (x : ℕ). set (a .notes .now) (a .k) x) (c .heavier .ensures)))  -- returns

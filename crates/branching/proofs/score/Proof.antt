@@ -1,0 +1,41 @@
+-- The quotient is at most 8 · 2^30, and the noise less than 128.
+use Prim.Native.Nat.{ℕ, _+_, _*_, _/_, _≤_, _<_}
+use native.Mathlib.Nat.{mul-le-mul, div-le-self}
+use native.Mathlib.Omega.{arith}
+use borrow.Author.Needs.{needs}
+use Rattle.branching.proofs.score.Statement.{statement}
+use Rattle.branching.proofs.score.Tie as tie
+
+quotient : (a w : ℕ) → a ≤ 8 → a * 1073741824 / w ≤ 8589934592
+quotient a w l = omega (arith, div-le-self (a * 1073741824) w)
+
+product : (a w x : ℕ) → a ≤ 8 → x < 128 → a * 1073741824 / w / 1024 * x ≤ 8388608 * 128
+product a w x l m =
+    let y : a * 1073741824 / w / 1024 ≤ 8388608 = omega (arith, quotient a w l) in
+    let z : x ≤ 128 = omega arith in
+    mul-le-mul y z
+
+pub score-spec : {M : Type 1} → statement M
+score-spec =
+    tie.close
+    (tie.spec
+    (λ c κs. search needs)  -- wide-requires
+    (λ c. search needs)  -- mul-wide
+    (λ c. search needs)  -- slice-read-wide
+    (λ c κs. search needs)  -- wide-requires-2
+    (λ c. search needs)  -- add-weight
+    (λ c. search needs)  -- add-weight-2
+    (λ c. search needs)  -- mul-plain
+    (λ c. search needs)  -- div-plain
+    (λ c κs. search needs)  -- noise-requires
+    (λ c.
+    let n = c .before .before in
+    let a = n .before .before .before .before .before .before in
+    record { fits = omega (arith, product (a .args .choices) (n .before .before .before .before .wide .result + n .before .before .wide2 .result + 1) (n .noise .result) (a .pre .0) (n .noise .ensures)) })  -- mul-result
+    (λ c.
+    let n = c .before .before in
+    let a = n .before .before .before .before .before .before in
+    let w = n .before .before .before .before .wide .result + n .before .before .wide2 .result + 1 in
+    record { fits = omega (arith, quotient (a .args .choices) w (a .pre .0), product (a .args .choices) w (n .noise .result) (a .pre .0) (n .noise .ensures)) })  -- add-result
+    (λ c. search needs)  -- same-length
+    (λ c. search needs))  -- returns

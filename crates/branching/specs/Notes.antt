@@ -1,0 +1,8 @@
+-- The notes of the search: what decides how long it takes. No answer rests on them.
+use mathlib.Core.Bool.{cond}
+use Prim.Native.Nat.{ℕ, _+_}
+use lib.Dec.{leb}
+
+-- a failure weight after one failure more; it stays where it has grown large
+abbrev pub heavier : ℕ → ℕ
+heavier w = cond (leb 4000000000 w) w (w + 16)

@@ -1,0 +1,18 @@
+-- The list that is lent has no places, so a set may not stand where it is late, and may where it is not.
+use native.Mathlib.Omega.{arith}
+use borrow.Author.Needs.{needs}
+use Rattle.deciding.proofs.Answering.{ready-begins, attempted}
+use Rattle.deciding.proofs.attempt.Statement.{statement}
+use Rattle.deciding.proofs.attempt.Tie as tie
+
+pub attempt-spec : {M : Type 1} → statement M
+attempt-spec =
+    tie.close
+    (tie.spec
+    (λ c κs. search needs)  -- copy-notes-requires
+    (λ c. search needs)  -- slice-aggregate-seek
+    (λ c κs.
+    let a = c .before .before .before .before .before .before .before .pre in
+    ((a .0 .0, a .0 .1, ready-begins (search needs) (a .0 .2)), omega (arith, a .1, c .before .before .before .before .copy-notes .kept .0)))  -- seek-requires
+    (λ c. search needs)  -- same-length
+    (λ c t l w. attempted (c .before .before .before .seek .ensures t l (ready-begins (search needs) w))))  -- returns

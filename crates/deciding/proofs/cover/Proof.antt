@@ -1,0 +1,15 @@
+-- A placement that was found is one that holds no listed conflict.
+use borrow.Author.Needs.{needs}
+use Rattle.deciding.proofs.Answering.{covering}
+use Rattle.deciding.proofs.cover.Statement.{statement}
+use Rattle.deciding.proofs.cover.Tie as tie
+
+pub cover-spec : {M : Type 1} → statement M
+cover-spec =
+    tie.close
+    (tie.spec
+    (λ c κs. search needs)  -- copy-notes-requires
+    (λ c κs. search needs)  -- seek-requires
+    (λ c. search needs)  -- same-length
+    (λ c. search needs)  -- same-length-2
+    (λ c t l b. covering (c .before .before .before .before .seek .result) (c .before .before .before .before .seek .ensures t l b)))  -- returns

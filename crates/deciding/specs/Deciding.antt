@@ -1,0 +1,34 @@
+-- What the two ways to search a region leave.
+use mathlib.Core.Path.{_≡_}
+use mathlib.Core.Bool.{Bool, true, false}
+use mathlib.Core.List.{List}
+use Prim.Native.Nat.{ℕ}
+use Rattle.table.specs.declared.Table.{Table}
+use Rattle.schedule.specs.Periodic.{LateSet}
+use Rattle.conflict.specs.Entry.{tasksIn}
+use Rattle.ledger.specs.Ledger.{Ledger, Grows, Covered, Clear}
+use Rattle.region.specs.Region.{Within, Refuted, Met, Witness}
+use Rattle.seek.specs.declared.Sought.{Sought}
+use Rattle.deciding.specs.declared.Covering.{Covering}
+
+-- the answer on the region of `on`: a placement without a late set, or that there is none
+abbrev pub DecidedAs : Bool → Table → (ℕ → ℕ → Bool) → List ℕ → Type 0
+DecidedAs true t on sets = Witness t (λ x. LateSet (tasksIn t) x → ⊥) on sets
+DecidedAs false t on sets = Refuted t (LateSet (tasksIn t)) (Within on)
+
+-- the same of one run, which gives up only where it is limited
+pub record AttemptedAs (t : Table) (limited : Bool) (on : ℕ → ℕ → Bool) (r : Sought) : Type 0 where
+  pub placement : r .found ≡ true → DecidedAs true t on (r .on)
+  pub nothing : r .none ≡ true → DecidedAs false t on (r .on)
+  pub certain : limited ≡ false → r .found ≡ false → r .none ≡ true
+
+-- the mark of the region: each of its placements holds a listed conflict, or the list is full and one holds none
+abbrev pub CutAs : Bool → Table → ℕ → (ℕ → ℕ → Bool) → List ℕ → ℕ → Type 0
+CutAs false t places on list count = Refuted t (Covered list count) (Within on)
+CutAs true t places on list count = (sets : List ℕ) × Witness t (Clear (tasksIn t) true places list count) on sets
+
+-- what listing a region's conflicts leaves
+pub record CoveringAs (t : Table) (places : ℕ) (on : ℕ → ℕ → Bool) (old : List ℕ) (before : ℕ) (new : List ℕ) (r : Covering) : Type 0 where
+  pub ledger : Ledger (tasksIn t) places new (r .count)
+  pub grows : Grows (Met t (Within on)) old before new (r .count)
+  pub mark : CutAs (r .cut) t places on new (r .count)

@@ -1,0 +1,56 @@
+-- The region of a task on a processor: entered, then decided or covered. Assumes nothing.
+use mathlib.Core.Path.{_≡_, subst}
+use mathlib.Core.Bool.{Bool, true, false}
+use mathlib.Core.List.{List}
+use Prim.Native.Nat.{ℕ, _≤_}
+use native.Mathlib.Omega.{arith}
+use lib.ListN.{length}
+use Rattle.table.specs.declared.Table.{Table}
+use Rattle.schedule.specs.Periodic.{LateSet}
+use Rattle.rules.specs.Placement.{andTask}
+use Rattle.rules.specs.Sets.{standing}
+use Rattle.conflict.specs.Entry.{tasksIn}
+use Rattle.ledger.proofs.Append.{ledger-start}
+use Rattle.ledger.proofs.Growth.{grows-trans}
+use Rattle.partial.specs.declared.State.{State}
+use Rattle.region.specs.Region.{Within, Refuted}
+use Rattle.region.specs.Begins.{Begins, Ready}
+use Rattle.seek.specs.declared.Entered.{Entered}
+use Rattle.seek.specs.Seek.{EntersAs, EnteredAs}
+use Rattle.deciding.specs.declared.Covering.{Covering}
+use Rattle.deciding.specs.Deciding.{DecidedAs, CoveringAs}
+
+-- deciding begins with a list without places
+pub begins-deciding : {t : Table} {s : State} → Ready t s → (none : List ℕ) → 3 ≤ length none → Begins t false 0 s none 0
+begins-deciding w none l = record { fits = w .fits; ledger = ledger-start (omega arith); clear = w .in-time }
+
+module _ {t : Table} {places : ℕ} {s : State} {k p : ℕ} {old mid : List ℕ} {before : ℕ} (e : Entered) where
+  -- in the way that decides
+  module _ (w : EnteredAs t false places s k p old before mid e) where
+    entered : (b : Bool) → e .passes ≡ b → EntersAs b t false places s k p mid (e .count) (e .next)
+    entered b f = subst (λ (x : Bool). EntersAs x t false places s k p mid (e .count) (e .next)) f (w .answer)
+
+    pub decided-closed : e .passes ≡ false → Refuted t (LateSet (tasksIn t)) (Within (andTask (standing (s .on)) k p))
+    decided-closed f = entered false f
+
+    pub entered-ready : e .passes ≡ true → Ready t (e .next)
+    entered-ready f = let b = entered true f .1 in record { fits = b .fits; in-time = b .clear }
+
+    pub decided-open : e .passes ≡ true → (found : Bool) (sets : List ℕ) → DecidedAs found t (standing (e .next .on)) sets → DecidedAs found t (andTask (standing (s .on)) k p) sets
+    decided-open f found sets = subst (λ (on : ℕ → ℕ → Bool). DecidedAs found t on sets) (entered true f .0 .on)
+
+  -- in the way that lists
+  module _ (w : EnteredAs t true places s k p old before mid e) where
+    listed : (b : Bool) → e .passes ≡ b → EntersAs b t true places s k p mid (e .count) (e .next)
+    listed b f = subst (λ (x : Bool). EntersAs x t true places s k p mid (e .count) (e .next)) f (w .answer)
+
+    pub covering-closed : e .passes ≡ false → CoveringAs t places (andTask (standing (s .on)) k p) old before mid (record { cut = false; count = e .count })
+    covering-closed f = record { ledger = w .ledger; grows = w .grows; mark = listed false f }
+
+    pub entered-begins : e .passes ≡ true → Begins t true places (e .next) mid (e .count)
+    entered-begins f = listed true f .1
+
+    pub covering-open : e .passes ≡ true → {new : List ℕ} (r : Covering) → CoveringAs t places (standing (e .next .on)) mid (e .count) new r → CoveringAs t places (andTask (standing (s .on)) k p) old before new r
+    covering-open f {new} r x =
+        let y = subst (λ (on : ℕ → ℕ → Bool). CoveringAs t places on mid (e .count) new r) (listed true f .0 .on) x in
+        record { ledger = y .ledger; grows = grows-trans (w .grows) (y .grows); mark = y .mark }

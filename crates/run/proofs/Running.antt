@@ -1,0 +1,109 @@
+-- The search from the empty placement: what it begins with, and what it has settled in the end. Assumes nothing.
+use mathlib.Core.Path.{_≡_, refl, subst}
+use mathlib.Core.Logic.{inl}
+use mathlib.Core.Bool.{Bool, true, false}
+use mathlib.Core.List.{List}
+use Prim.Native.Nat.{ℕ, _+_, _*_, _≤_, _<_}
+use native.Mathlib.Omega.{arith}
+use lib.Dec.{T}
+use lib.ListN.{length, getD}
+use Rattle.mask.specs.Mask.{has}
+use Rattle.table.specs.declared.Table.{Table}
+use Rattle.table.specs.Sound.{Sound}
+use Rattle.schedule.proofs.LateSets.{late-set}
+use Rattle.schedule.specs.Arrays.{higherOf}
+use Rattle.rules.specs.Sets.{standing}
+use Rattle.conflict.specs.Entry.{tasksIn}
+use Rattle.judge.proofs.Limits.{valid-tasks, constrained-tasks}
+use Rattle.ledger.proofs.Append.{ledger-start}
+use Rattle.columns.specs.Columns.{loadsOf, amountsOf, exclusionsOf}
+use Rattle.partial.specs.declared.Sizes.{Sizes}
+use Rattle.partial.specs.declared.State.{State}
+use Rattle.partial.specs.Partial.{Started}
+use Rattle.region.specs.Region.{Within, Settled}
+use Rattle.region.specs.Lends.{Lends}
+use Rattle.region.proofs.Settling.{settled-region, settled-covered, settled-cut}
+use Rattle.region.specs.Begins.{Begins, Ready}
+use Rattle.deciding.specs.declared.Decided.{Decided}
+use Rattle.deciding.specs.declared.Covering.{Covering}
+use Rattle.deciding.specs.Deciding.{DecidedAs, CutAs, CoveringAs}
+use Rattle.first.specs.declared.Reached.{Reached}
+use Rattle.first.specs.First.{InTime, Placing, FirstOf}
+use Rattle.run.specs.Run.{SizesOf, RanAs}
+
+module _ {t : Table} (h : Sound t) {s : State} (w : Started t s) where
+  -- a processor without tasks has no late job
+  idle : (p : ℕ) → InTime t (has (getD (s .on) p 0))
+  idle p l = let i = late-set (tasksIn t) (valid-tasks h) (has (getD (s .on) p 0)) (constrained-tasks h) .0 l in w .nothing (i .0) p (i .2)
+
+  -- every placement has all that the empty one has
+  everywhere : (e : List ℕ) → Within (standing (s .on)) e
+  everywhere e k p u = absurd (w .nothing k p u)
+
+  pub start-deciding : Ready t s
+  start-deciding = record { fits = w .fits; in-time = idle }
+
+  module _ (places : ℕ) (list : List ℕ) (room : 6 * places + 3 ≤ length list) where
+    pub start-listing : Begins t true places s list 0
+    start-listing = record { fits = w .fits; ledger = ledger-start room; clear = λ p. inl (idle p) }
+
+    module _ (d : Decided) (x : DecidedAs (d .found) t (standing (s .on)) (d .on)) where
+      decided : (b : Bool) → d .found ≡ b → DecidedAs b t (standing (s .on)) (d .on)
+      decided b e = subst (λ (a : Bool). DecidedAs a t (standing (s .on)) (d .on)) e x
+
+      -- a good placement is found: the search for the first one begins
+      pub start-placing : d .found ≡ true → Placing t places s 0 (d .on) list 0
+      start-placing e = record {
+        fits = w .fits;
+        ledger = ledger-start room;
+        good = decided true e;
+        upto = omega arith;
+        open-from = λ j a b. go j b (has (s .left) j) (λ u. u) (λ u. u);
+        placed-below = λ j a. absurd (omega arith);
+      }
+        where
+          go : (j : ℕ) → j < t .tasks .count → (b : Bool) → (T b → T (has (s .left) j)) → (T (has (s .left) j) → T b) → T (has (s .left) j)
+          go j l true f g = f tt
+          go j l false f g = let i = w .fits .placed-task j l g in absurd (w .nothing j (i .0) (i .1))
+
+      -- there is none: the conflicts of all placements are listed
+      pub ran-none : d .found ≡ false → {new : List ℕ} (r : Covering) → CoveringAs t places (standing (s .on)) list 0 new r → (sets : List ℕ)
+          → RanAs t places list new (record { found = false; on = sets; count = r .count; cut = r .cut })
+      ran-none e {new} r y sets = settled-region (λ q i u. tt) (λ q i u. everywhere q) (go (r .cut) (y .mark))
+        where
+          go : (b : Bool) → CutAs b t places (standing (s .on)) new (r .count) → Settled t places (Within (standing (s .on))) list 0 false new (r .count) b
+          go false a = settled-covered (decided false e) (y .ledger) (y .grows) a
+          go true a = settled-cut h (decided false e) (y .ledger) (y .grows) (a .1)
+
+    pub ran-found : {new : List ℕ} (r : Reached) → FirstOf t places s list 0 false new r → RanAs t places list new (record { found = true; on = r .on; count = r .count; cut = r .cut })
+    ran-found r f = (
+      record { part = λ k p. absurd; whole = f .good .whole; keeps = f .good .keeps; clear = f .good .clear },
+      settled-region (λ q i u. u .1) (λ q i u. (everywhere q, u)) (f .settled),
+    )
+
+-- the columns of a table, as they are made for the search
+pub lends-table : {t : Table} → Sound t → {r : Sizes} → SizesOf t r → {higher exclusions loads amounts : List ℕ}
+    → higher ≡ higherOf (t .tasks .count) (t .tasks .priority) → exclusions ≡ exclusionsOf t → loads ≡ loadsOf t → amounts ≡ amountsOf t
+    → Lends t r (t .tasks .c) (t .tasks .t) (t .tasks .d) (t .tasks .priority) higher (t .tasks .residence) (t .tasks .memory) exclusions (t .co .mask) (t .messages .sender) (t .messages .receiver) loads amounts
+lends-table h s ranked e l a = record {
+  rules = record {
+    sound = h;
+    tasks = s .tasks;
+    processors = s .processors;
+    groups = s .groups;
+    messages = s .messages;
+    same-residence = refl;
+    same-memory = refl;
+    same-exclusions = e;
+    same-co = refl;
+    same-sender = refl;
+    same-receiver = refl;
+    same-loads = l;
+    same-amounts = a;
+  };
+  same-work = refl;
+  same-period = refl;
+  same-deadline = refl;
+  same-priority = refl;
+  ranked = ranked;
+}

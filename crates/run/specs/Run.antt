@@ -1,0 +1,25 @@
+-- What the search on a table leaves.
+use mathlib.Core.Path.{_≡_}
+use mathlib.Core.Bool.{Bool, true, false}
+use mathlib.Core.List.{List}
+use Prim.Native.Nat.{ℕ}
+use Rattle.table.specs.declared.Table.{Table}
+use Rattle.partial.specs.declared.Sizes.{Sizes}
+use Rattle.region.specs.Region.{Witness, Settled, Sooner}
+use Rattle.first.specs.First.{InTime}
+use Rattle.run.specs.declared.Ran.{Ran}
+
+-- how many there are of each in the table
+pub record SizesOf (t : Table) (r : Sizes) : Type 0 where
+  pub tasks : r .tasks ≡ t .tasks .count
+  pub processors : r .processors ≡ t .processors .count
+  pub groups : r .groups ≡ t .co .count
+  pub messages : r .messages ≡ t .messages .count
+
+-- the first good placement of all and every earlier one settled; or all placements settled
+abbrev pub RunsAs : Bool → Table → ℕ → List ℕ → List ℕ → Ran → Type 0
+RunsAs true t places old new r = Witness t (InTime t) (λ k p. false) (r .on) × Settled t places (Sooner (r .on)) old 0 false new (r .count) (r .cut)
+RunsAs false t places old new r = Settled t places (λ e. Unit {0}) old 0 false new (r .count) (r .cut)
+
+abbrev pub RanAs : Table → ℕ → List ℕ → List ℕ → Ran → Type 0
+RanAs t places old new r = RunsAs (r .found) t places old new r

@@ -1,0 +1,14 @@
+-- A remainder by m is less than m.
+use native.Mathlib.Nat.{mod-lt}
+use borrow.Author.Needs.{needs}
+use Rattle.seek.proofs.offset.Statement.{statement}
+use Rattle.seek.proofs.offset.Tie as tie
+
+pub offset-spec : {M : Type 1} → statement M
+offset-spec =
+    tie.close
+    (tie.spec
+    (λ c κs. search needs)  -- noise-requires
+    (λ c. search needs)  -- rem-result
+    (λ c. search needs)  -- same-length
+    (λ c. mod-lt _ (c .before .before .before .before .before .pre .0)))  -- returns

@@ -1,0 +1,5 @@
+pub mod Exchange
+pub mod Swap
+pub mod Taking
+pub mod Rooms
+pub mod Asking

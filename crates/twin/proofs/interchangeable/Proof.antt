@@ -1,0 +1,39 @@
+-- Each test is one part of being interchangeable. Assumes nothing.
+use borrow.Author.Needs.{needs}
+use native.Mathlib.Omega.{arith}
+use borrow.Author.Tests.{not-true, not-false}
+use Rattle.twin.proofs.Asking.{open-low, memory-yes, memory-no, load-yes, load-no, residence-says}
+use Rattle.twin.proofs.interchangeable.Statement.{statement}
+use Rattle.twin.proofs.interchangeable.Tie as tie
+
+pub interchangeable-spec : {M : Type 1} → statement M
+interchangeable-spec =
+    tie.close
+    (tie.spec
+    (λ c. search needs)  -- mul-if1
+    (λ c. search needs)  -- element-copy-out-if1
+    (λ c. search needs)  -- returns
+    (λ c. search needs)  -- mul-memory-alike
+    (λ c. search needs)  -- element-copy-out-memory-alike
+    (λ c. search needs)  -- mul-memory-alike-2
+    (λ c. search needs)  -- element-copy-out-memory-alike-2
+    (λ c κs. open-low (c .before .before .before .before .pre .0 .1))  -- memory-alike-requires
+    (λ c t w i. memory-no w _ (c .before .memory-alike .ensures) (not-true (c .before .memory-alike .result) (c .if2 .taken)) i)  -- returns-2
+    (λ c. search needs)  -- mul-load-alike
+    (λ c. search needs)  -- element-copy-out-load-alike
+    (λ c. search needs)  -- mul-load-alike-2
+    (λ c. search needs)  -- element-copy-out-load-alike-2
+    (λ c κs. open-low (c .before .before .before .before .before .before .before .before .pre .0 .1))  -- load-alike-requires
+    (λ c t w i. load-no w _ (c .before .load-alike .ensures) (not-true (c .before .load-alike .result) (c .if3 .taken)) i)  -- returns-3
+    (λ c κs.
+    let z = c .before .before .before .before .before .before .before .before .before .before .pre in
+    (open-low (z .0 .1), omega (arith, z .0 .1 .known, z .0 .1 .sound .processors .most), omega (arith, z .0 .1 .known, z .0 .1 .sound .processors .most)))  -- same-residence-requires
+    (λ c t w.
+    let l = c .before .before in
+    let m = l .before .before .before .before in
+    let e = m .before .before .before in
+    let z = e .before .before .pre in
+    residence-says w (z .2) (e .if1 .left) (z .1)
+    (memory-yes w _ (m .memory-alike .ensures) (not-false (m .memory-alike .result) (l .before .before .before .if2 .left)))
+    (load-yes w _ (l .load-alike .ensures) (not-false (l .load-alike .result) (c .before .if3 .left)))
+    (c .same-residence .result) (c .same-residence .ensures)))  -- returns-4

@@ -1,0 +1,33 @@
+-- What the functions ask of their callers, and what the loops sum.
+use mathlib.Core.Path.{_≡_}
+use mathlib.Core.Bool.{Bool}
+use mathlib.Core.List.{List}
+use Prim.Native.Nat.{ℕ, _<_}
+use lib.Dec.{T}
+use lib.ListN.{getD}
+use Rattle.finite.specs.Finite.{only, sumTo}
+use Rattle.mask.specs.Mask.{has, below}
+use Rattle.table.specs.declared.Table.{Table}
+use Rattle.table.specs.Sound.{Sound}
+use Rattle.schedule.specs.Arrays.{Says}
+use Rattle.columns.specs.Columns.{loadsOf}
+use Rattle.partial.specs.declared.State.{State}
+use Rattle.partial.specs.Partial.{Fits}
+use Rattle.twin.specs.Twin.{Alike}
+
+-- a state and a processor of the table whose columns are lent
+pub record Asks (t : Table) (residence memory loads : List ℕ) (s : State) (p : ℕ) : Type 0 where
+  pub sound : Sound t
+  pub same-residence : residence ≡ t .tasks .residence
+  pub same-memory : memory ≡ t .tasks .memory
+  pub same-loads : loads ≡ loadsOf t
+  pub fits : Fits t s
+  pub known : p < t .processors .count
+
+-- the sum of a column over the tasks of a set, of n tasks
+abbrev pub total : ℕ → List ℕ → ℕ → ℕ
+total n column set = sumTo n (λ k. only (has set k) (getD column k 0))
+
+-- the answer r on two rooms is right of the column's sum over the set, among any n tasks that hold it
+abbrev pub SaysAlike : Bool → List ℕ → ℕ → ℕ → ℕ → Type 0
+SaysAlike r column set a b = (n : ℕ) → T (below n set) → Says r (Alike (total n column set) a b)

@@ -1,0 +1,152 @@
+// An earlier processor that can stand in for another: below a state both allow the same, so only one of them need be searched.
+ghost use mathlib.Core.Path.{_≡_};
+ghost use Prim.Native.Nat.{ℕ, _<_, min};
+ghost use lib.Dec.{T, leb};
+ghost use lib.ListN.{getD};
+ghost use Rattle.mask.specs.Mask.{below};
+ghost use Rattle.table.specs.declared.Table.{Table};
+ghost use Rattle.schedule.specs.Arrays.{Says};
+ghost use Rattle.twin.specs.Twin.{SameResidence, Interchangeable, LowestTwin};
+ghost use Rattle.twin.specs.Asks.{Asks, total, SaysAlike};
+use partial::State;
+
+// x as a wider number.
+fn wide(x: u32) -> u64
+    ensures { λ r. ⌜ r ≡ x ⌝ }
+{
+    x as u64
+}
+
+// The lesser of two rooms.
+fn lesser(a: u64, b: u64) -> u64
+    ensures { λ r. ⌜ r ≡ min a b ⌝ }
+{
+    if a < b {
+        return a;
+    }
+    b
+}
+
+// Whether the memory of all tasks in the set fits the room; left at the first that does not.
+fn memory_fits(memory: &[u32; 24], set: u32, room: u64) -> bool
+    requires { ⌜ T (below 24 set) ⌝ }
+    ensures { λ r. ⌜ ((n : ℕ) → T (below n set) → r ≡ leb (total n (now (memory .entry)) set) room) ⌝ }
+{
+    let mut free = room;
+    let mut rest = set;
+    while rest != 0 {
+        let k = mask::lowest(rest);
+        let x = wide(memory[k]);
+        if free < x {
+            return false;
+        }
+        free -= x;
+        rest = mask::remove(rest, k);
+    }
+    true
+}
+
+// The same of the load.
+fn load_fits(loads: &[u64; 24], set: u32, room: u64) -> bool
+    requires { ⌜ T (below 24 set) ⌝ }
+    ensures { λ r. ⌜ ((n : ℕ) → T (below n set) → r ≡ leb (total n (now (loads .entry)) set) room) ⌝ }
+{
+    let mut free = room;
+    let mut rest = set;
+    while rest != 0 {
+        let k = mask::lowest(rest);
+        let x = loads[k];
+        if free < x {
+            return false;
+        }
+        free -= x;
+        rest = mask::remove(rest, k);
+    }
+    true
+}
+
+// Whether each task of the set may reside on both processors or on neither.
+fn same_residence(residence: &[u32; 24], set: u32, p: usize, q: usize) -> bool
+    requires { ⌜ T (below 24 set) × (p < 32) × (q < 32) ⌝ }
+    ensures { λ r. ⌜ Says r (SameResidence (now (residence .entry)) set p q) ⌝ }
+{
+    let mut rest = set;
+    while rest != 0 {
+        let k = mask::lowest(rest);
+        if mask::has(residence[k], p) != mask::has(residence[k], q) {
+            return false;
+        }
+        rest = mask::remove(rest, k);
+    }
+    true
+}
+
+// Whether two rooms for memory are alike to the tasks of the set: the sum is needed only where they differ.
+fn memory_alike(memory: &[u32; 24], set: u32, a: u64, b: u64) -> bool
+    requires { ⌜ T (below 24 set) ⌝ }
+    ensures { λ r. ⌜ SaysAlike r (now (memory .entry)) set a b ⌝ }
+{
+    if a == b {
+        return true;
+    }
+    memory_fits(memory, set, lesser(a, b))
+}
+
+// The same of rooms for load.
+fn load_alike(loads: &[u64; 24], set: u32, a: u64, b: u64) -> bool
+    requires { ⌜ T (below 24 set) ⌝ }
+    ensures { λ r. ⌜ SaysAlike r (now (loads .entry)) set a b ⌝ }
+{
+    if a == b {
+        return true;
+    }
+    load_fits(loads, set, lesser(a, b))
+}
+
+// Whether processor q below the empty processor p is interchangeable with it: the cheap tests first.
+fn interchangeable<'a>(
+    residence: &'a [u32; 24],
+    memory: &'a [u32; 24],
+    loads: &'a [u64; 24],
+    s: State,
+    q: usize,
+    p: usize,
+) -> bool
+    requires { ⌜ ((t : Table) × Asks t (now residence) (now memory) (now loads) s p) × (getD (s .on) p 0 ≡ 0) × (q < p) ⌝ }
+    ensures { λ r. ⌜ ((t : Table) → Asks t (now (residence .entry)) (now (memory .entry)) (now (loads .entry)) s p → Says r (Interchangeable t s q p)) ⌝ }
+{
+    if s.on[q] != 0 {
+        return false;
+    }
+    if !memory_alike(memory, s.left, s.memory[q], s.memory[p]) {
+        return false;
+    }
+    if !load_alike(loads, s.left, s.load[q], s.load[p]) {
+        return false;
+    }
+    same_residence(residence, s.left, q, p)
+}
+
+// The lowest processor below p that is interchangeable with it; p where there is none.
+pub fn twin<'a>(
+    residence: &'a [u32; 24],
+    memory: &'a [u32; 24],
+    loads: &'a [u64; 24],
+    s: State,
+    p: usize,
+) -> usize
+    requires { ⌜ ((t : Table) × Asks t (now residence) (now memory) (now loads) s p) ⌝ }
+    ensures { λ r. ⌜ ((t : Table) → Asks t (now (residence .entry)) (now (memory .entry)) (now (loads .entry)) s p → LowestTwin t s p r) ⌝ }
+{
+    if s.on[p] != 0 {
+        return p;
+    }
+    let mut q: usize = 0;
+    while q < p {
+        if interchangeable(residence, memory, loads, s, q, p) {
+            return q;
+        }
+        q += 1;
+    }
+    p
+}
