@@ -3,19 +3,16 @@ use mathlib.Core.Path.{_≡_, refl, sym, subst, fun-ext, _∙_}
 use mathlib.Core.Logic.{_≢_, _⊎_, inl, inr}
 use mathlib.Core.Bool.{Bool, cond, true, false, _&&_, _||_, and-false, and-true}
 use mathlib.Core.List.{List}
-use Prim.Native.Nat.{ℕ, _+_, _-_, _*_, _/_, _^_, _≤_, _<_}
-use native.Mathlib.Nat.{lt-of-lt-of-le}
+use Prim.Native.Nat.{ℕ, _+_, _-_, _*_, _/_, _≤_, _<_}
 use native.Mathlib.Omega.{arith}
 use native.Mathlib.Decide.{ℕ-discrete}
 use borrow.Author.Tests.{eq-eqb, ne-eqb}
-use lib.Dec.{T, eqb, ltb→lt}
+use lib.Dec.{T, eqb}
 use lib.ListN.{length, getD, set, length-set}
-use lib.Pow.{pow-mono}
 use lib.Seq.{getD-set-same, getD-set-other}
-use Rattle.mask.specs.Mask.{has, insertOf, removeOf, lowestOf}
-use Rattle.mask.proofs.Laws.{has-below, has-insert, has-remove, lowest-is, remove-lt, remove-not, remove-subset}
+use Rattle.mask.specs.Mask.{has, insertOf, removeOf}
+use Rattle.mask.proofs.Laws.{has-insert, has-remove, remove-not, remove-subset}
 use Rattle.table.specs.declared.Table.{Table}
-use Rattle.table.specs.Sound.{Sound}
 use Rattle.rules.specs.Placement.{andTask}
 use Rattle.rules.specs.Rules.{memoryOn, loadOn, traffic, Keeps}
 use Rattle.rules.specs.Sets.{standing}
@@ -160,18 +157,3 @@ module _ {t : Table} {sizes : Sizes} {residence memory exclusions co sender rece
   pub trial-step : (allowed : Bool) (added : ℕ) → TrialOf t s k p allowed added → StepOf t s k p allowed (cond allowed (withTask s k p (getD memory k 0) (getD loads k 0) added) s)
   trial-step true added w = stepped f k p free (omega (arith, e .processors)) (e .sound .processors .most) (rw (e .same-memory) refl) (load-at e f k p free low) (enough w) w
   trial-step false added w = w
-
--- ---- the open tasks
-
--- each step leaves a smaller number
-pub step-measure : {t : Table} {s : State} {k p : ℕ} {r : State} → Stepped t s k p r → T (has (s .left) k) → r .left < s .left
-step-measure {s = s} {k = k} w free = rw (w .left) (remove-lt (s .left) k free)
-
--- the lowest open task
-pub open-lowest : {t : Table} {s : State} → Sound t → Fits t s → 0 < s .left → T (has (s .left) (lowestOf 32 (s .left))) × (lowestOf 32 (s .left) < t .tasks .count)
-open-lowest {t} {s} sound f some = let k = lowest-is 32 (s .left) some small in (k .member, f .open-task (lowestOf 32 (s .left)) (k .member) .0)
-  where
-    small : s .left < 2 ^ 32
-    small =
-        let few : t .tasks .count ≤ 32 = omega (arith, sound .tasks .most) in
-        lt-of-lt-of-le (ltb→lt (s .left) (2 ^ t .tasks .count) (has-below (t .tasks .count) (s .left) (λ k u. f .open-task k u .0))) (pow-mono few)

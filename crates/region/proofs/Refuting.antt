@@ -10,7 +10,6 @@ use lib.ListN.{length, getD}
 use Rattle.finite.proofs.Some.{or-left, or-right, or-either}
 use Rattle.mask.specs.Mask.{has}
 use Rattle.mask.proofs.Tests.{and-both, and-left, and-right}
-use Rattle.mask.proofs.Laws.{has-zero}
 use Rattle.table.specs.declared.Table.{Table}
 use Rattle.table.specs.Sound.{Sound}
 use Rattle.rules.specs.Placement.{placed, andTask, Part}
@@ -19,7 +18,8 @@ use Rattle.rules.specs.Sets.{standing}
 use Rattle.rules.proofs.Monotone.{keeps-part}
 use Rattle.judge.specs.Judge.{PlacementOf}
 use Rattle.partial.specs.declared.State.{State}
-use Rattle.partial.specs.Partial.{Partial, Whole, Fits}
+use Rattle.partial.specs.Partial.{Partial, Fits}
+use Rattle.partial.proofs.Whole.{fits-whole}
 use Rattle.region.specs.Region.{Within, Refuted, Met, Witness}
 use Rattle.region.proofs.Filling.{placed-at, filled, filled-placement, filled-part, filled-resides}
 
@@ -75,10 +75,7 @@ met-here h {sets} w keeps p f = record {
     part : Part (standing sets) (placed (filled h (standing sets) (w .processor)))
     part = filled-part h (standing sets) (w .processor) (w .task) (w .once)
 
--- a state without open tasks is a whole placement
-pub fits-whole : {t : Table} {s : State} → Fits t s → s .left ≡ 0 → Whole t (s .on)
-fits-whole {t} {s} f e = record { partial = f .partial; somewhere = λ k l. f .placed-task k l (λ u. subst T (has-zero k) (subst (λ (x : ℕ). T (has x k)) e u)) }
-
+-- a state without open tasks
 pub witness-end : {t : Table} {C : (ℕ → Bool) → Type 0} {s : State} → Fits t s → s .left ≡ 0 → ((p : ℕ) → C (has (getD (s .on) p 0))) → Witness t C (standing (s .on)) (s .on)
 witness-end f e clear = record { part = λ k p u. u; whole = fits-whole f e; keeps = f .keeps; clear = clear }
 
