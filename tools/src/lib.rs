@@ -4,6 +4,7 @@
 //! - `generate`: random inputs; `examples`: inputs with answers worked out by hand;
 //! - `comparison`: runs both on many inputs;
 //! - `tool`: the tool's C functions; `program`: the program, as a process;
+//! - `question`: a table for solvers of other makers;
 //! - `text`, `listing`, `explain`: tables that people write, what the program prints, and that in words, for
 //!   the binary `table`.
 //!
@@ -21,6 +22,7 @@ pub mod judge;
 pub mod listing;
 pub mod model;
 pub mod program;
+pub mod question;
 pub mod random;
 pub mod reader;
 pub mod schedule;

@@ -5,5 +5,6 @@ pub mod crowded;
 pub mod faulty;
 pub mod files;
 pub mod lamps;
+pub mod loads;
 pub mod sets;
 pub mod tables;
