@@ -5,13 +5,15 @@ use mathlib.Core.Bool.{Bool, false, _||_, or-assoc, or-comm}
 use mathlib.Core.List.{List, [], _∷_, _++_, append-assoc, append-nil}
 use Prim.Native.Nat.{ℕ, zero, suc, _+_, _-_, _*_, _^_, _≤_, _<_}
 use native.Mathlib.Omega.{arith}
-use lib.Dec.{T}
+use lib.Dec.{T, ltb, ltb→lt, lt→ltb}
 use lib.ListN.{length, getD, take, drop, length-append, length-drop, length-replicate}
 use lib.Seq.{length-take-le, take-at, drop-at, drop-drop}
 use borrow.Rule.Slice.PartMut.{midOf, putMid}
-use Rattle.finite.specs.Finite.{someBelow}
+use Rattle.finite.specs.Finite.{someBelow, firstBelow}
 use Rattle.finite.proofs.Some.{some-intro, some-elim, some-ext}
+use Rattle.finite.proofs.Search.{FirstBelow, first-below, lowest, nowhere}
 use Rattle.mask.specs.Mask.{Subset, within}
+use Rattle.mask.proofs.Tests.{same-test}
 use Rattle.mask.proofs.Laws.{subset-within, within-subset}
 use Rattle.wire.specs.Wire.{number, recordBytes}
 use Rattle.wire.proofs.Laws.{number-at, number-behind, record-length}
@@ -24,6 +26,15 @@ some-front : (n : ℕ) (p : ℕ → Bool) → someBelow (suc n) p ≡ (p 0 || so
 unfolding someBelow
 some-front zero p = or-comm false (p 0)
 some-front (suc n) p = ap (λ (b : Bool). b || p (suc n)) (some-front n p) ∙ or-assoc (p 0) (someBelow n (λ j. p (suc j))) (p (suc n))
+
+-- the first number that passes is below n exactly where some number does
+pub first-some : (n : ℕ) (p : ℕ → Bool) → ltb (firstBelow n p) n ≡ someBelow n p
+first-some n p = go (first-below n p)
+  where
+    go : FirstBelow n p (firstBelow n p) → ltb (firstBelow n p) n ≡ someBelow n p
+    go (lowest l t h) = same-test _ _ (λ u. some-intro n p _ l t) (λ u. lt→ltb _ _ l)
+    go (nowhere e h) =
+        same-test _ _ (λ u. absurd (omega (arith, ltb→lt (firstBelow n p) n u))) (λ u. let r = some-elim n p u in absurd (h (r .0) (r .1) (r .2)))
 
 covered-some : (cs : List ℕ) (set : ℕ) → coveredBy cs set ≡ someBelow (length cs) (λ j. within (getD cs j 0) set)
 unfolding coveredBy someBelow

@@ -3,7 +3,7 @@ ghost use mathlib.Core.Path.{_≡_};
 ghost use mathlib.Core.List.{_++_};
 ghost use Prim.Native.Nat.{_+_, _*_, _≤_};
 ghost use lib.ListN.{length, take, drop};
-ghost use Rattle.finite.specs.Finite.{someBelow};
+ghost use Rattle.finite.specs.Finite.{firstBelow};
 ghost use Rattle.mask.specs.Mask.{within};
 ghost use Rattle.wire.specs.Wire.{markBytes};
 ghost use Rattle.answer.specs.Answer.{foundHead, noneHead, conflictBytes, endBytes, places, laid, maskAt};
@@ -55,19 +55,27 @@ pub fn append(list: &mut [u8], count: usize, mask: u32)
     wire::put_record(&mut list[at..], &NG, mask);
 }
 
-// Whether one of the first `count` conflicts is a subset of the set.
-pub fn covered(list: &[u8], count: usize, set: u32) -> bool
+// Whether conflict j is a subset of the set.
+pub fn holds(list: &[u8], j: usize, set: u32) -> bool
+    requires { ⌜ 6 * j + 6 ≤ length (now list) ⌝ }
+    ensures { λ r. ⌜ r ≡ within (maskAt (now (list .entry)) j) set ⌝ }
+{
+    mask::subset(wire::word_at(list, 6 * j + 2), set)
+}
+
+// The first of the first `count` conflicts that is a subset of the set, `count` if none is.
+pub fn covering(list: &[u8], count: usize, set: u32) -> usize
     requires { ⌜ 6 * count ≤ length (now list) ⌝ }
-    ensures { λ r. ⌜ r ≡ someBelow count (λ j. within (maskAt (now (list .entry)) j) set) ⌝ }
+    ensures { λ r. ⌜ r ≡ firstBelow count (λ j. within (maskAt (now (list .entry)) j) set) ⌝ }
 {
     let mut j: usize = 0;
     while j < count {
-        if mask::subset(wire::word_at(list, 6 * j + 2), set) {
-            return true;
+        if holds(list, j, set) {
+            return j;
         }
         j += 1;
     }
-    false
+    count
 }
 
 // Puts the end at the start of a lent part.

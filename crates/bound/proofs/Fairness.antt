@@ -36,7 +36,8 @@ use Rattle.partial.proofs.OneMore.{kept-le}
 use Rattle.region.specs.Region.{Within, Refuted}
 use Rattle.region.proofs.Filling.{placed-at, placed-is}
 use Rattle.packing.specs.Packing.{weightOf, joined}
-use Rattle.bound.specs.Weighing.{Fair, Choice, Joins}
+use Rattle.offer.specs.Offer.{Fair, Choice}
+use Rattle.bound.specs.Weighing.{Joins}
 
 -- the open tasks that q has on p
 abbrev pub openOn : ℕ → State → List ℕ → ℕ → ℕ

@@ -34,8 +34,9 @@ use Rattle.partial.proofs.OneMore.{kept-le}
 use Rattle.region.proofs.Filling.{placed-at}
 use Rattle.packing.specs.Packing.{joined}
 use Rattle.bound.specs.Bound.{BoundedAs}
-use Rattle.bound.specs.Weighing.{Fair, Choices, mustCross, crossingOf, Carried}
-use Rattle.bound.proofs.Meeting.{not-both}
+use Rattle.offer.specs.Offer.{Fair, Choices}
+use Rattle.bound.specs.Weighing.{mustCross, crossingOf, Carried}
+use Rattle.offer.proofs.Meeting.{not-both}
 use Rattle.bound.proofs.Fairness.{has-or-takes, not-both-there, refuted-fair}
 
 -- the messages of the table

@@ -31,13 +31,16 @@ use Rattle.region.proofs.Lending.{lent-tasks}
 use Rattle.packing.specs.declared.Packed.{Packed}
 use Rattle.packing.specs.Packing.{weightOf, Takes, PackedAs}
 use Rattle.packing.proofs.Taking.{takes-map}
+use Rattle.memo.specs.Weights.{rowOf}
+use Rattle.memo.specs.Memo.{Capped}
 use Rattle.bound.specs.declared.Bounded.{Bounded}
-use Rattle.bound.specs.declared.Offered.{Offered}
+use Rattle.offer.specs.declared.Offered.{Offered}
 use Rattle.bound.specs.Bound.{BoundedAs}
-use Rattle.bound.specs.Weighing.{Fair, Eligible, Choices, OfferedAs, Weights, TopAs, Covers, Joins, Bounds, Tops, TightAs}
-use Rattle.bound.proofs.Meeting.{met-among}
+use Rattle.offer.specs.Offer.{Fair, Eligible, Choices, OfferedAs}
+use Rattle.bound.specs.Weighing.{Weights, TopAs, Covers, Joins, Bounds, Tops, TightAs}
+use Rattle.offer.proofs.Meeting.{met-among}
 use Rattle.bound.proofs.Weighted.{set-all}
-use Rattle.bound.proofs.Choosing.{choice-map, eligible-below}
+use Rattle.offer.proofs.Choosing.{choice-map, eligible-below}
 use Rattle.bound.proofs.Fairness.{openOn, fair-joins, open-sum, refuted-fair}
 
 -- fewer kinds of sets
@@ -76,6 +79,19 @@ module _ {t : Table} {s : State} {listing : Bool} {places : ℕ} {weights sets t
     bounds = λ x j. ⊎-elim (λ e. rw e (o .bounds p low x j)) (λ e. rw e (o .bounds _ i x (joins-cover c j))) (m .2);
   }
 
+  -- or one that is kept, of late sets
+  pub tight-recalled : {guide : List ℕ} {row top most : ℕ} → listing ≡ false → weights ≡ rowOf (t .tasks .memory) (loadsOf t) guide row → Ledger (tasksIn t) places list count
+      → Capped t guide (getD (s .on) p 0) (getD sets p 0) row (getD (s .memory) p 0) (getD (s .load) p 0) top
+      → (most ≤ getD tops p 0) × (most ≤ top) × ((most ≡ getD tops p 0) ⊎ (most ≡ top)) → TightAs t listing places s weights sets tops p list count list (record { most = most; count = count })
+  tight-recalled {top = top} e v w c m = record {
+    ledger = w;
+    grows = grows-refl;
+    no-more = m .0;
+    bounds = λ x j.
+        let k : weightOf (t .tasks .count) weights x ≤ top = rw v (c .bounds x (takes-map (λ y late. subst (λ (b : Bool). Bad (tasksIn t) b list count y) (sym e) late) (j .takes)) (j .inside)) in
+        ⊎-elim (λ i. rw i (o .bounds p low x j)) (λ i. rw i k) (m .2);
+  }
+
   -- or by packing
   pub tight-packed : Sound t → Fits t s → Eligible t s p (getD sets p 0) → {new : List ℕ} (r : Packed) {most : ℕ}
       → PackedAs (t .tasks .count) (tasksIn t) listing places (t .tasks .memory) (exclusionsOf t) (loadsOf t) weights (getD (s .on) p 0) (getD sets p 0) (getD (s .memory) p 0) (getD (s .load) p 0) 0 (getD tops p 0) 0 list count new r
@@ -88,6 +104,20 @@ module _ {t : Table} {s : State} {listing : Bool} {places : ℕ} {weights sets t
         let b = o .bounds p low x (joins-map (λ y. bad-grows (tasksIn t) listing y (a .grows)) j) in
         ⊎-elim (λ i. omega arith) (λ i. omega (arith, a .bounds x (j .takes) (j .inside) (omega arith))) (m .2);
   }
+
+-- a bound that can be kept
+pub tight-capped : {t : Table} {listing : Bool} {places : ℕ} {s : State} {weights sets tops old new guide : List ℕ} {p before row : ℕ} (r : Packed) → listing ≡ false
+    → weights ≡ rowOf (t .tasks .memory) (loadsOf t) guide row → TightAs t listing places s weights sets tops p old before new r
+    → Capped t guide (getD (s .on) p 0) (getD sets p 0) row (getD (s .memory) p 0) (getD (s .load) p 0) (r .most)
+tight-capped {t} {new = new} r e v a = record {
+  bounds = λ x w f. rw (← v) (a .bounds x (record { inside = f; takes = takes-map (λ y bad. subst (λ (b : Bool). Bad (tasksIn t) b new (r .count) y) e bad) w }));
+}
+
+-- the weights of a row, by the table's columns
+pub row-as : {t : Table} {sizes : Sizes} {work period deadline priority higher residence memory exclusions co sender receiver loads amounts : List ℕ}
+    → Lends t sizes work period deadline priority higher residence memory exclusions co sender receiver loads amounts → {weights : List ℕ} (guide : List ℕ) (row : ℕ)
+    → weights ≡ rowOf memory loads guide row → weights ≡ rowOf (t .tasks .memory) (loadsOf t) guide row
+row-as l guide row e = rw (l .rules .same-memory, l .rules .same-loads) at e
 
 -- what the packing leaves, by the table's columns
 pub packed-as : {t : Table} {sizes : Sizes} {work period deadline priority higher residence memory exclusions co sender receiver loads amounts : List ℕ}

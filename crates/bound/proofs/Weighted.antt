@@ -1,27 +1,40 @@
 -- Weights of sets of tasks: how large they are, one by another, an array of them filled place by place. Assumes nothing.
-use mathlib.Core.Path.{_≡_, sym, subst}
-use mathlib.Core.Logic.{_⊎_, ⊎-elim}
+use mathlib.Core.Path.{_≡_, refl, sym, subst, _∙_}
+use mathlib.Core.Logic.{_≢_, _⊎_, inl, inr, ⊎-elim}
+use mathlib.Core.Bool.{Bool, true, false}
 use mathlib.Core.List.{List}
-use Prim.Native.Nat.{ℕ, _+_, _≤_, _<_}
+use Prim.Native.Nat.{ℕ, zero, suc, _+_, _≤_, _<_}
 use native.Mathlib.Omega.{arith}
 use native.Mathlib.Decide.{ℕ-discrete, decLt}
+use borrow.Author.Tests.{lt-ltb, le-ltb}
 use lib.Dec.{T}
-use lib.ListN.{length, getD, set, replicate, getD-replicate, length-replicate, List·getD-eq-default}
+use lib.ListN.{length, getD, set, replicate}
 use lib.Seq.{getD-set-same, getD-set-other}
 use Rattle.finite.specs.Finite.{only}
-use Rattle.finite.proofs.Sum.{sum-zero, sum-le}
-use Rattle.finite.proofs.Only.{only-in, only-out, only-le, sum-bound}
+use Rattle.finite.proofs.Sum.{sum-le}
+use Rattle.finite.proofs.Only.{only-in, only-le, sum-bound}
 use Rattle.mask.specs.Mask.{has, below, Subset, removeOf}
-use Rattle.mask.proofs.Laws.{has-zero, below-has, remove-subset}
+use Rattle.mask.proofs.Laws.{below-has, remove-subset}
 use Rattle.partial.specs.declared.State.{State}
 use Rattle.packing.specs.Packing.{weightOf}
 use Rattle.packing.proofs.Taking.{weight-remove, weight-less}
+use Rattle.memo.specs.Weights.{lowerOf, cappedBy, weightIn}
+use Rattle.memo.proofs.Laws.{weight-none, zeros}
 use Rattle.bound.specs.Weighing.{Light, Weights, TopAs}
 
--- no task
-pub weight-none : (n : ℕ) (weights : List ℕ) → weightOf n weights 0 ≡ 0
-unfolding weightOf
-weight-none n weights = sum-zero n _ (λ k l. only-out (has 0 k) (getD weights k 0) (λ u. rw (has-zero k) at u))
+-- the lower of two numbers
+pub lower-left : (a b : ℕ) → a < b → a ≡ lowerOf a b
+lower-left a b l = subst (λ (t : Bool). a ≡ elim t [ true ↦ a | false ↦ b ]) (sym (lt-ltb a b l)) refl
+
+pub lower-right : (a b : ℕ) → b ≤ a → b ≡ lowerOf a b
+lower-right a b l = subst (λ (t : Bool). b ≡ elim t [ true ↦ a | false ↦ b ]) (sym (le-ltb a b l)) refl
+
+pub lower-is : (a b : ℕ) {r : ℕ} → r ≡ lowerOf a b → (r ≤ a) × (r ≤ b) × ((r ≡ a) ⊎ (r ≡ b))
+lower-is a b {r} e = go (decLt a b)
+  where
+    go : Dec (a < b) → (r ≤ a) × (r ≤ b) × ((r ≡ a) ⊎ (r ≡ b))
+    go (yes l) = let i : r ≡ a = e ∙ sym (lower-left a b l) in (omega arith, omega arith, inl i)
+    go (no l) = let i : r ≡ b = e ∙ sym (lower-right a b (omega arith)) in (omega arith, omega arith, inr i)
 
 -- light weights are so small in all
 pub weight-small : (weights : List ℕ) (x : ℕ) → Light weights → weightOf 24 weights x ≤ 103079215080
@@ -41,26 +54,34 @@ set-all P l i v low f h j = go (ℕ-discrete j i)
     go (yes e) = subst (λ (x : ℕ). P x (getD (set l i v) x 0)) (sym e) (subst (P i) (sym (getD-set-same l i v 0 low)) h)
     go (no e) = subst (P j) (sym (getD-set-other l i j v 0 e)) (f j)
 
--- an array of zeros
-zeros : (n k : ℕ) → getD (replicate n 0) k 0 ≤ 0
-zeros n k = go (decLt k n)
-  where
-    go : Dec (k < n) → getD (replicate n 0) k 0 ≤ 0
-    go (yes l) = omega (arith, getD-replicate {A = ℕ} n k 0 0 l)
-    go (no l) = omega (arith, List·getD-eq-default {A = ℕ} (replicate n 0) 0 {n = k} (simp length-replicate (omega arith)))
-
 -- no weights
 pub weights-start : {memory loads : List ℕ} {row : ℕ} → Weights memory loads row (replicate 24 0)
 weights-start = record { light = λ k. omega (arith, zeros 24 k); by-load = λ e k. omega (arith, zeros 24 k); by-memory = λ e k. omega (arith, zeros 24 k) }
 
 -- one weight more
-pub weights-next : {memory loads : List ℕ} {row : ℕ} {weights : List ℕ} {k v : ℕ} → Weights memory loads row weights → k < length weights
-    → (v < 4294967296) × (row ≡ 0 → v ≤ getD loads k 0) × (row ≡ 1 → v ≤ getD memory k 0) → Weights memory loads row (set weights k v)
-weights-next {memory} {loads} {row} {weights} {k} {v} w l f = record {
-  light = set-all (λ j x. x < 4294967296) weights k v l (w .light) (f .0);
-  by-load = λ e. set-all (λ j x. x ≤ getD loads j 0) weights k v l (w .by-load e) (f .1 e);
-  by-memory = λ e. set-all (λ j x. x ≤ getD memory j 0) weights k v l (w .by-memory e) (f .2 e);
+pub weights-next : {memory loads : List ℕ} (guide : List ℕ) {row : ℕ} {weights : List ℕ} {k v : ℕ} → Weights memory loads row weights → k < length weights
+    → (v < 4294967296) × (v ≡ weightIn memory loads guide row k) → Weights memory loads row (set weights k v)
+weights-next {memory} {loads} guide {row} {weights} {k} {v} w l (f, e) = record {
+  light = set-all (λ j x. x < 4294967296) weights k v l (w .light) f;
+  by-load = λ i. set-all (λ j x. x ≤ getD loads j 0) weights k v l (w .by-load i) (lower-is _ _ (rw i at e) .0);
+  by-memory = λ i. set-all (λ j x. x ≤ getD memory j 0) weights k v l (w .by-memory i) (lower-is _ _ (rw i at e) .0);
 }
+
+-- a number of the guide, by its row: capped by the load, by the memory, or as it is
+module _ (row load memory weight wide : ℕ) (e : (wide ≡ weight) × (wide < 4294967296)) where
+  pub weight-load : {r : ℕ} → row ≡ 0 → r ≡ lowerOf load wide → (r < 4294967296) × (r ≡ cappedBy row load memory weight)
+  weight-load i h = (omega (arith, lower-is load wide h), rw (i, ← e .0) h)
+
+  pub weight-memory : {r a : ℕ} → row ≡ 1 → a ≡ memory → r ≡ lowerOf a wide → (r < 4294967296) × (r ≡ cappedBy row load memory weight)
+  weight-memory {a = a} i o h = (omega (arith, lower-is a wide h), rw (i, ← e .0, ← o) h)
+
+  pub weight-guide : row ≢ 0 → row ≢ 1 → (wide < 4294967296) × (wide ≡ cappedBy row load memory weight)
+  weight-guide a b = (e .1, go row a b)
+    where
+      go : (n : ℕ) → n ≢ 0 → n ≢ 1 → wide ≡ cappedBy n load memory weight
+      go zero u v = absurd (u refl)
+      go (suc zero) u v = absurd (v refl)
+      go (suc (suc n)) u v = e .0
 
 -- ---- the sum over a set, task by task
 

@@ -1,10 +1,9 @@
 // A bound on the region below a state: the open tasks weigh more than all processors together can take, or the network carries too little.
 ghost use mathlib.Core.Path.{_≡_};
-ghost use mathlib.Core.Logic.{_⊎_};
 ghost use Prim.Native.Nat.{ℕ, _≤_, _<_};
 ghost use lib.Dec.{T};
 ghost use lib.ListN.{length, getD};
-ghost use mathlib.Core.Bool.{_&&_, _||_};
+ghost use mathlib.Core.Bool.{false, _&&_, _||_};
 ghost use Rattle.finite.specs.Finite.{sumTo, someBelow};
 ghost use Rattle.mask.specs.Mask.{has, below};
 ghost use Rattle.table.specs.declared.Table.{Table};
@@ -14,8 +13,12 @@ ghost use Rattle.ledger.specs.Ledger.{Ledger, Bad};
 ghost use Rattle.region.specs.Lends.{Lends};
 ghost use Rattle.region.specs.Begins.{Begins};
 ghost use Rattle.packing.specs.Packing.{weightOf, joined};
+ghost use Rattle.known.specs.Known.{Knows};
+ghost use Rattle.memo.specs.Memo.{Learnt};
+ghost use Rattle.memo.specs.Weights.{lowerOf, weightIn, rowOf};
 ghost use Rattle.bound.specs.Bound.{BoundedAs};
-ghost use Rattle.bound.specs.Weighing.{JoinsAs, ChosenAs, Choices, OfferedAs, Light, Weights, TopAs, Covers, Eligible, Tops, TightAs, mustCross, crossingOf, Carried};
+ghost use Rattle.offer.specs.Offer.{Eligible, Choices};
+ghost use Rattle.bound.specs.Weighing.{Light, Weights, TopAs, Covers, Tops, TightAs, mustCross, crossingOf, Carried};
 use packing::Packed;
 use partial::Sizes;
 use partial::State;
@@ -24,24 +27,6 @@ use partial::State;
 pub struct Bounded {
     pub hopeless: bool,
     pub count: usize,
-}
-
-// Whether a task may join a processor, and how many conflicts are listed then.
-struct Joining {
-    able: bool,
-    count: usize,
-}
-
-// The candidates for a processor, and how many conflicts are listed then.
-struct Chosen {
-    set: u32,
-    count: usize,
-}
-
-// The candidates for each processor, and how many conflicts are listed then.
-struct Offered {
-    sets: [u32; 8],
-    count: usize,
 }
 
 // x as a wider number.
@@ -53,202 +38,12 @@ fn wide(x: u32) -> u64
 
 // The lower of two numbers.
 fn lower(a: u64, b: u64) -> u64
-    ensures { λ r. ⌜ (r ≤ a) × (r ≤ b) × ((r ≡ a) ⊎ (r ≡ b)) ⌝ }
+    ensures { λ r. ⌜ r ≡ lowerOf a b ⌝ }
 {
     if a < b {
         return a;
     }
     b
-}
-
-// The open task k on processor p: tested by the rules, then for lateness.
-fn join<'a>(
-    work: &'a [u32; 24],
-    period: &'a [u32; 24],
-    deadline: &'a [u32; 24],
-    priority: &'a [u32; 24],
-    higher: &'a [u32; 24],
-    residence: &'a [u32; 24],
-    memory: &'a [u32; 24],
-    exclusions: &'a [u32; 24],
-    co: &'a [u32; 16],
-    sender: &'a [u32; 64],
-    receiver: &'a [u32; 64],
-    loads: &'a [u64; 24],
-    amounts: &'a [u64; 64],
-    sizes: Sizes,
-    s: State,
-    k: usize,
-    p: usize,
-    listing: bool,
-    list: &mut [u8],
-    places: usize,
-    count: usize,
-) -> Joining
-    requires { ⌜ ((t : Table) × Lends t sizes (now work) (now period) (now deadline) (now priority) (now higher) (now residence) (now memory) (now exclusions) (now co) (now sender) (now receiver) (now loads) (now amounts) × Fits t s × Ledger (tasksIn t) places (now list) count) × T (has (s .left) k) × (p < sizes .processors) ⌝ }
-    ensures { λ r. ⌜ ((t : Table) → Lends t sizes (now (work .entry)) (now (period .entry)) (now (deadline .entry)) (now (priority .entry)) (now (higher .entry)) (now (residence .entry)) (now (memory .entry)) (now (exclusions .entry)) (now (co .entry)) (now (sender .entry)) (now (receiver .entry)) (now (loads .entry)) (now (amounts .entry))
-        → Fits t s → Ledger (tasksIn t) places (now (list .entry)) count → JoinsAs t listing places s k p (now (list .entry)) count (now (list .exit)) r) ⌝ }
-{
-    if !partial::allows(
-        residence,
-        memory,
-        exclusions,
-        co,
-        sender,
-        receiver,
-        loads,
-        amounts,
-        sizes,
-        s,
-        k,
-        p,
-    ) {
-        return Joining { able: false, count };
-    }
-    let set = mask::insert(s.on[p], k);
-    let tested = ledger::test(
-        work,
-        period,
-        deadline,
-        priority,
-        higher,
-        sizes.tasks,
-        set,
-        listing,
-        list,
-        places,
-        count,
-    );
-    Joining {
-        able: !tested.bad,
-        count: tested.count,
-    }
-}
-
-// The open tasks that may stand on processor p.
-fn candidates<'a>(
-    work: &'a [u32; 24],
-    period: &'a [u32; 24],
-    deadline: &'a [u32; 24],
-    priority: &'a [u32; 24],
-    higher: &'a [u32; 24],
-    residence: &'a [u32; 24],
-    memory: &'a [u32; 24],
-    exclusions: &'a [u32; 24],
-    co: &'a [u32; 16],
-    sender: &'a [u32; 64],
-    receiver: &'a [u32; 64],
-    loads: &'a [u64; 24],
-    amounts: &'a [u64; 64],
-    sizes: Sizes,
-    s: State,
-    p: usize,
-    listing: bool,
-    list: &mut [u8],
-    places: usize,
-    count: usize,
-) -> Chosen
-    requires { ⌜ ((t : Table) × Lends t sizes (now work) (now period) (now deadline) (now priority) (now higher) (now residence) (now memory) (now exclusions) (now co) (now sender) (now receiver) (now loads) (now amounts) × Fits t s × Ledger (tasksIn t) places (now list) count) × (p < sizes .processors) ⌝ }
-    ensures { λ r. ⌜ ((t : Table) → Lends t sizes (now (work .entry)) (now (period .entry)) (now (deadline .entry)) (now (priority .entry)) (now (higher .entry)) (now (residence .entry)) (now (memory .entry)) (now (exclusions .entry)) (now (co .entry)) (now (sender .entry)) (now (receiver .entry)) (now (loads .entry)) (now (amounts .entry))
-        → Fits t s → Ledger (tasksIn t) places (now (list .entry)) count → ChosenAs t listing places s p (now (list .entry)) count (now (list .exit)) r) ⌝ }
-{
-    let mut set: u32 = 0;
-    let mut listed = count;
-    let mut rest = s.left;
-    while rest != 0 {
-        let k = mask::lowest(rest);
-        let joining = join(
-            work,
-            period,
-            deadline,
-            priority,
-            higher,
-            residence,
-            memory,
-            exclusions,
-            co,
-            sender,
-            receiver,
-            loads,
-            amounts,
-            sizes,
-            s,
-            k,
-            p,
-            listing,
-            list,
-            places,
-            listed,
-        );
-        listed = joining.count;
-        if joining.able {
-            set = mask::insert(set, k);
-        }
-        rest = mask::remove(rest, k);
-    }
-    Chosen { set, count: listed }
-}
-
-// The candidates for each processor.
-fn offers<'a>(
-    work: &'a [u32; 24],
-    period: &'a [u32; 24],
-    deadline: &'a [u32; 24],
-    priority: &'a [u32; 24],
-    higher: &'a [u32; 24],
-    residence: &'a [u32; 24],
-    memory: &'a [u32; 24],
-    exclusions: &'a [u32; 24],
-    co: &'a [u32; 16],
-    sender: &'a [u32; 64],
-    receiver: &'a [u32; 64],
-    loads: &'a [u64; 24],
-    amounts: &'a [u64; 64],
-    sizes: Sizes,
-    s: State,
-    listing: bool,
-    list: &mut [u8],
-    places: usize,
-    count: usize,
-) -> Offered
-    requires { ⌜ ((t : Table) × Lends t sizes (now work) (now period) (now deadline) (now priority) (now higher) (now residence) (now memory) (now exclusions) (now co) (now sender) (now receiver) (now loads) (now amounts) × Fits t s × Ledger (tasksIn t) places (now list) count) ⌝ }
-    ensures { λ r. ⌜ ((t : Table) → Lends t sizes (now (work .entry)) (now (period .entry)) (now (deadline .entry)) (now (priority .entry)) (now (higher .entry)) (now (residence .entry)) (now (memory .entry)) (now (exclusions .entry)) (now (co .entry)) (now (sender .entry)) (now (receiver .entry)) (now (loads .entry)) (now (amounts .entry))
-        → Fits t s → Ledger (tasksIn t) places (now (list .entry)) count → OfferedAs t listing places s (now (list .entry)) count (now (list .exit)) r) ⌝ }
-{
-    let mut sets = [0u32; 8];
-    let mut listed = count;
-    let mut p: usize = 0;
-    while p < sizes.processors {
-        let chosen = candidates(
-            work,
-            period,
-            deadline,
-            priority,
-            higher,
-            residence,
-            memory,
-            exclusions,
-            co,
-            sender,
-            receiver,
-            loads,
-            amounts,
-            sizes,
-            s,
-            p,
-            listing,
-            list,
-            places,
-            listed,
-        );
-        sets[p] = chosen.set;
-        listed = chosen.count;
-        p += 1;
-    }
-    Offered {
-        sets,
-        count: listed,
-    }
 }
 
 // The weight of task k in a row of the guide: no more than its load in row 0, and than its memory in row 1.
@@ -260,7 +55,7 @@ fn weight<'a>(
     k: usize,
 ) -> u64
     requires { ⌜ (row < 3) × (k < 24) ⌝ }
-    ensures { λ r. ⌜ (r < 4294967296) × (row ≡ 0 → r ≤ getD (now (loads .entry)) k 0) × (row ≡ 1 → r ≤ getD (now (memory .entry)) k 0) ⌝ }
+    ensures { λ r. ⌜ (r < 4294967296) × (r ≡ weightIn (now (memory .entry)) (now (loads .entry)) (now (guide .entry)) row k) ⌝ }
 {
     let weight = wide(guide[24 * row + k]);
     if row == 0 {
@@ -280,7 +75,7 @@ fn weights_of<'a>(
     row: usize,
 ) -> [u64; 24]
     requires { ⌜ row < 3 ⌝ }
-    ensures { λ r. ⌜ Weights (now (memory .entry)) (now (loads .entry)) row r ⌝ }
+    ensures { λ r. ⌜ Weights (now (memory .entry)) (now (loads .entry)) row r × (r ≡ rowOf (now (memory .entry)) (now (loads .entry)) (now (guide .entry)) row) ⌝ }
 {
     let mut weights = [0u64; 24];
     let mut k: usize = 0;
@@ -384,8 +179,8 @@ fn like(s: State, sets: [u32; 8], p: usize) -> usize
     p
 }
 
-// A tighter bound for processor p: that of an earlier one which can take just what p can, or by packing.
-fn tighten<'a>(
+// A tighter bound for processor p, by packing.
+fn pack<'a>(
     work: &'a [u32; 24],
     period: &'a [u32; 24],
     deadline: &'a [u32; 24],
@@ -410,20 +205,14 @@ fn tighten<'a>(
     list: &mut [u8],
     places: usize,
     count: usize,
+    known: &mut [u32; 16384],
 ) -> Packed
-    requires { ⌜ ((t : Table) × Lends t sizes (now work) (now period) (now deadline) (now priority) (now higher) (now residence) (now memory) (now exclusions) (now co) (now sender) (now receiver) (now loads) (now amounts) × Fits t s × Ledger (tasksIn t) places (now list) count × ((p : ℕ) → p < t .processors .count → Eligible t s p (getD sets p 0)) × Tops t s (Bad (tasksIn t) listing (now list) count) (now weights) sets tops) × Light (now weights) × (p < sizes .processors) ⌝ }
+    requires { ⌜ ((t : Table) × Lends t sizes (now work) (now period) (now deadline) (now priority) (now higher) (now residence) (now memory) (now exclusions) (now co) (now sender) (now receiver) (now loads) (now amounts) × Fits t s × Ledger (tasksIn t) places (now list) count × ((p : ℕ) → p < t .processors .count → Eligible t s p (getD sets p 0)) × Tops t s (Bad (tasksIn t) listing (now list) count) (now weights) sets tops × Knows (tasksIn t) (now known)) × Light (now weights) × (p < sizes .processors) ⌝ }
     ensures { λ r. ⌜ ((t : Table) → Lends t sizes (now (work .entry)) (now (period .entry)) (now (deadline .entry)) (now (priority .entry)) (now (higher .entry)) (now (residence .entry)) (now (memory .entry)) (now (exclusions .entry)) (now (co .entry)) (now (sender .entry)) (now (receiver .entry)) (now (loads .entry)) (now (amounts .entry))
         → Fits t s → Ledger (tasksIn t) places (now (list .entry)) count
-        → ((p : ℕ) → p < t .processors .count → Eligible t s p (getD sets p 0)) → Tops t s (Bad (tasksIn t) listing (now (list .entry)) count) (now (weights .entry)) sets tops → TightAs t listing places s (now (weights .entry)) sets tops p (now (list .entry)) count (now (list .exit)) r) ⌝ }
+        → ((p : ℕ) → p < t .processors .count → Eligible t s p (getD sets p 0)) → Tops t s (Bad (tasksIn t) listing (now (list .entry)) count) (now (weights .entry)) sets tops → Knows (tasksIn t) (now (known .entry)) → TightAs t listing places s (now (weights .entry)) sets tops p (now (list .entry)) count (now (list .exit)) r × Knows (tasksIn t) (now (known .exit))) ⌝ }
 {
     let most = tops[p];
-    let r = like(s, sets, p);
-    if r < p {
-        return Packed {
-            most: lower(most, tops[r]),
-            count,
-        };
-    }
     let set = sets[p];
     let reach = weight_of(weights, set);
     let packed = packing::most(
@@ -451,11 +240,191 @@ fn tighten<'a>(
         list,
         places,
         count,
+        known,
     );
     Packed {
         most: lower(most, packed.most),
         count: packed.count,
     }
+}
+
+// The same where no conflicts are listed: what is kept of it, or by packing, and that is kept then.
+fn pack_once<'a>(
+    work: &'a [u32; 24],
+    period: &'a [u32; 24],
+    deadline: &'a [u32; 24],
+    priority: &'a [u32; 24],
+    higher: &'a [u32; 24],
+    residence: &'a [u32; 24],
+    memory: &'a [u32; 24],
+    exclusions: &'a [u32; 24],
+    co: &'a [u32; 16],
+    sender: &'a [u32; 64],
+    receiver: &'a [u32; 64],
+    loads: &'a [u64; 24],
+    amounts: &'a [u64; 64],
+    guide: &'a [u32; 120],
+    weights: &'a [u64; 24],
+    row: usize,
+    sizes: Sizes,
+    s: State,
+    sets: [u32; 8],
+    tops: [u64; 8],
+    p: usize,
+    listing: bool,
+    list: &mut [u8],
+    places: usize,
+    count: usize,
+    known: &mut [u32; 16384],
+    memo: &mut [u64; 12288],
+) -> Packed
+    requires { ⌜ ((t : Table) × Lends t sizes (now work) (now period) (now deadline) (now priority) (now higher) (now residence) (now memory) (now exclusions) (now co) (now sender) (now receiver) (now loads) (now amounts) × Fits t s × Ledger (tasksIn t) places (now list) count × ((p : ℕ) → p < t .processors .count → Eligible t s p (getD sets p 0)) × Tops t s (Bad (tasksIn t) listing (now list) count) (now weights) sets tops × Learnt t (now guide) (now known) (now memo)) × Light (now weights) × (p < sizes .processors) × (now weights ≡ rowOf (now memory) (now loads) (now guide) row) × (listing ≡ false) ⌝ }
+    ensures { λ r. ⌜ ((t : Table) → Lends t sizes (now (work .entry)) (now (period .entry)) (now (deadline .entry)) (now (priority .entry)) (now (higher .entry)) (now (residence .entry)) (now (memory .entry)) (now (exclusions .entry)) (now (co .entry)) (now (sender .entry)) (now (receiver .entry)) (now (loads .entry)) (now (amounts .entry))
+        → Fits t s → Ledger (tasksIn t) places (now (list .entry)) count
+        → ((p : ℕ) → p < t .processors .count → Eligible t s p (getD sets p 0)) → Tops t s (Bad (tasksIn t) listing (now (list .entry)) count) (now (weights .entry)) sets tops → Learnt t (now (guide .entry)) (now (known .entry)) (now (memo .entry)) → TightAs t listing places s (now (weights .entry)) sets tops p (now (list .entry)) count (now (list .exit)) r × Learnt t (now (guide .entry)) (now (known .exit)) (now (memo .exit))) ⌝ }
+{
+    let on = s.on[p];
+    let set = sets[p];
+    let space = s.memory[p];
+    let spare = s.load[p];
+    let kept = memo::recall(on, set, row, space, spare, memo);
+    if kept.hit {
+        return Packed {
+            most: lower(tops[p], kept.top),
+            count,
+        };
+    }
+    let packed = pack(
+        work,
+        period,
+        deadline,
+        priority,
+        higher,
+        residence,
+        memory,
+        exclusions,
+        co,
+        sender,
+        receiver,
+        loads,
+        amounts,
+        guide,
+        weights,
+        sizes,
+        s,
+        sets,
+        tops,
+        p,
+        listing,
+        list,
+        places,
+        count,
+        known,
+    );
+    memo::keep(on, set, row, space, spare, packed.most, memo);
+    packed
+}
+
+// A tighter bound for processor p: that of an earlier one which can take just what p can, or by packing.
+fn tighten<'a>(
+    work: &'a [u32; 24],
+    period: &'a [u32; 24],
+    deadline: &'a [u32; 24],
+    priority: &'a [u32; 24],
+    higher: &'a [u32; 24],
+    residence: &'a [u32; 24],
+    memory: &'a [u32; 24],
+    exclusions: &'a [u32; 24],
+    co: &'a [u32; 16],
+    sender: &'a [u32; 64],
+    receiver: &'a [u32; 64],
+    loads: &'a [u64; 24],
+    amounts: &'a [u64; 64],
+    guide: &'a [u32; 120],
+    weights: &'a [u64; 24],
+    row: usize,
+    sizes: Sizes,
+    s: State,
+    sets: [u32; 8],
+    tops: [u64; 8],
+    p: usize,
+    listing: bool,
+    list: &mut [u8],
+    places: usize,
+    count: usize,
+    known: &mut [u32; 16384],
+    memo: &mut [u64; 12288],
+) -> Packed
+    requires { ⌜ ((t : Table) × Lends t sizes (now work) (now period) (now deadline) (now priority) (now higher) (now residence) (now memory) (now exclusions) (now co) (now sender) (now receiver) (now loads) (now amounts) × Fits t s × Ledger (tasksIn t) places (now list) count × ((p : ℕ) → p < t .processors .count → Eligible t s p (getD sets p 0)) × Tops t s (Bad (tasksIn t) listing (now list) count) (now weights) sets tops × Learnt t (now guide) (now known) (now memo)) × Light (now weights) × (p < sizes .processors) × (now weights ≡ rowOf (now memory) (now loads) (now guide) row) ⌝ }
+    ensures { λ r. ⌜ ((t : Table) → Lends t sizes (now (work .entry)) (now (period .entry)) (now (deadline .entry)) (now (priority .entry)) (now (higher .entry)) (now (residence .entry)) (now (memory .entry)) (now (exclusions .entry)) (now (co .entry)) (now (sender .entry)) (now (receiver .entry)) (now (loads .entry)) (now (amounts .entry))
+        → Fits t s → Ledger (tasksIn t) places (now (list .entry)) count
+        → ((p : ℕ) → p < t .processors .count → Eligible t s p (getD sets p 0)) → Tops t s (Bad (tasksIn t) listing (now (list .entry)) count) (now (weights .entry)) sets tops → Learnt t (now (guide .entry)) (now (known .entry)) (now (memo .entry)) → TightAs t listing places s (now (weights .entry)) sets tops p (now (list .entry)) count (now (list .exit)) r × Learnt t (now (guide .entry)) (now (known .exit)) (now (memo .exit))) ⌝ }
+{
+    let r = like(s, sets, p);
+    if r < p {
+        return Packed {
+            most: lower(tops[p], tops[r]),
+            count,
+        };
+    }
+    if listing {
+        return pack(
+            work,
+            period,
+            deadline,
+            priority,
+            higher,
+            residence,
+            memory,
+            exclusions,
+            co,
+            sender,
+            receiver,
+            loads,
+            amounts,
+            guide,
+            weights,
+            sizes,
+            s,
+            sets,
+            tops,
+            p,
+            listing,
+            list,
+            places,
+            count,
+            known,
+        );
+    }
+    pack_once(
+        work,
+        period,
+        deadline,
+        priority,
+        higher,
+        residence,
+        memory,
+        exclusions,
+        co,
+        sender,
+        receiver,
+        loads,
+        amounts,
+        guide,
+        weights,
+        row,
+        sizes,
+        s,
+        sets,
+        tops,
+        p,
+        listing,
+        list,
+        places,
+        count,
+        known,
+        memo,
+    )
 }
 
 // The bound by the weights of one row: the processors are tightened one after the other, until their sum is below what the open tasks weigh.
@@ -482,11 +451,13 @@ fn weigh<'a>(
     list: &mut [u8],
     places: usize,
     count: usize,
+    known: &mut [u32; 16384],
+    memo: &mut [u64; 12288],
 ) -> Bounded
-    requires { ⌜ ((t : Table) × Lends t sizes (now work) (now period) (now deadline) (now priority) (now higher) (now residence) (now memory) (now exclusions) (now co) (now sender) (now receiver) (now loads) (now amounts) × Fits t s × Ledger (tasksIn t) places (now list) count × Choices t s (Bad (tasksIn t) listing (now list) count) sets) × (row < 3) ⌝ }
+    requires { ⌜ ((t : Table) × Lends t sizes (now work) (now period) (now deadline) (now priority) (now higher) (now residence) (now memory) (now exclusions) (now co) (now sender) (now receiver) (now loads) (now amounts) × Fits t s × Ledger (tasksIn t) places (now list) count × Choices t s (Bad (tasksIn t) listing (now list) count) sets × Learnt t (now guide) (now known) (now memo)) × (row < 3) ⌝ }
     ensures { λ r. ⌜ ((t : Table) → Lends t sizes (now (work .entry)) (now (period .entry)) (now (deadline .entry)) (now (priority .entry)) (now (higher .entry)) (now (residence .entry)) (now (memory .entry)) (now (exclusions .entry)) (now (co .entry)) (now (sender .entry)) (now (receiver .entry)) (now (loads .entry)) (now (amounts .entry))
         → Fits t s → Ledger (tasksIn t) places (now (list .entry)) count
-        → Choices t s (Bad (tasksIn t) listing (now (list .entry)) count) sets → BoundedAs t listing places s (now (list .entry)) count (now (list .exit)) r) ⌝ }
+        → Choices t s (Bad (tasksIn t) listing (now (list .entry)) count) sets → Learnt t (now (guide .entry)) (now (known .entry)) (now (memo .entry)) → BoundedAs t listing places s (now (list .entry)) count (now (list .exit)) r × Learnt t (now (guide .entry)) (now (known .exit)) (now (memo .exit))) ⌝ }
 {
     let m = sizes.processors;
     let weights = weights_of(memory, loads, guide, row);
@@ -512,6 +483,7 @@ fn weigh<'a>(
             amounts,
             guide,
             &weights,
+            row,
             sizes,
             s,
             sets,
@@ -521,6 +493,8 @@ fn weigh<'a>(
             list,
             places,
             listed,
+            known,
+            memo,
         );
         tops[p] = tight.most;
         listed = tight.count;
@@ -632,12 +606,14 @@ fn try_all<'a>(
     list: &mut [u8],
     places: usize,
     count: usize,
+    known: &mut [u32; 16384],
+    memo: &mut [u64; 12288],
 ) -> Bounded
-    requires { ⌜ ((t : Table) × Lends t sizes (now work) (now period) (now deadline) (now priority) (now higher) (now residence) (now memory) (now exclusions) (now co) (now sender) (now receiver) (now loads) (now amounts) × Fits t s × Ledger (tasksIn t) places (now list) count) ⌝ }
+    requires { ⌜ ((t : Table) × Lends t sizes (now work) (now period) (now deadline) (now priority) (now higher) (now residence) (now memory) (now exclusions) (now co) (now sender) (now receiver) (now loads) (now amounts) × Fits t s × Ledger (tasksIn t) places (now list) count × Learnt t (now guide) (now known) (now memo)) ⌝ }
     ensures { λ r. ⌜ ((t : Table) → Lends t sizes (now (work .entry)) (now (period .entry)) (now (deadline .entry)) (now (priority .entry)) (now (higher .entry)) (now (residence .entry)) (now (memory .entry)) (now (exclusions .entry)) (now (co .entry)) (now (sender .entry)) (now (receiver .entry)) (now (loads .entry)) (now (amounts .entry))
-        → Fits t s → Ledger (tasksIn t) places (now (list .entry)) count → BoundedAs t listing places s (now (list .entry)) count (now (list .exit)) r) ⌝ }
+        → Fits t s → Ledger (tasksIn t) places (now (list .entry)) count → Learnt t (now (guide .entry)) (now (known .entry)) (now (memo .entry)) → BoundedAs t listing places s (now (list .entry)) count (now (list .exit)) r × Learnt t (now (guide .entry)) (now (known .exit)) (now (memo .exit))) ⌝ }
 {
-    let offered = offers(
+    let offered = offer::offers(
         work,
         period,
         deadline,
@@ -657,6 +633,7 @@ fn try_all<'a>(
         list,
         places,
         count,
+        known,
     );
     let sets = offered.sets;
     let remote = crossing(
@@ -696,6 +673,8 @@ fn try_all<'a>(
             list,
             places,
             listed,
+            known,
+            memo,
         );
         hopeless = bounded.hopeless;
         listed = bounded.count;
@@ -767,10 +746,12 @@ pub fn bound<'a>(
     places: usize,
     count: usize,
     notes: &mut [u32],
+    known: &mut [u32; 16384],
+    memo: &mut [u64; 12288],
 ) -> Bounded
-    requires { ⌜ ((t : Table) × Lends t sizes (now work) (now period) (now deadline) (now priority) (now higher) (now residence) (now memory) (now exclusions) (now co) (now sender) (now receiver) (now loads) (now amounts) × Begins t listing places s (now list) count) × (64 ≤ length (now notes)) ⌝ }
+    requires { ⌜ ((t : Table) × Lends t sizes (now work) (now period) (now deadline) (now priority) (now higher) (now residence) (now memory) (now exclusions) (now co) (now sender) (now receiver) (now loads) (now amounts) × Begins t listing places s (now list) count × Learnt t (now guide) (now known) (now memo)) × (64 ≤ length (now notes)) ⌝ }
     ensures { λ r. ⌜ ((t : Table) → Lends t sizes (now (work .entry)) (now (period .entry)) (now (deadline .entry)) (now (priority .entry)) (now (higher .entry)) (now (residence .entry)) (now (memory .entry)) (now (exclusions .entry)) (now (co .entry)) (now (sender .entry)) (now (receiver .entry)) (now (loads .entry)) (now (amounts .entry))
-        → Begins t listing places s (now (list .entry)) count → BoundedAs t listing places s (now (list .entry)) count (now (list .exit)) r) ⌝ }
+        → Begins t listing places s (now (list .entry)) count → Learnt t (now (guide .entry)) (now (known .entry)) (now (memo .entry)) → BoundedAs t listing places s (now (list .entry)) count (now (list .exit)) r × Learnt t (now (guide .entry)) (now (known .exit)) (now (memo .exit))) ⌝ }
 {
     if !due(s.left, notes) {
         return Bounded {
@@ -799,6 +780,8 @@ pub fn bound<'a>(
         list,
         places,
         count,
+        known,
+        memo,
     );
     if !(listing && first.hopeless) {
         note(notes, first.hopeless);
@@ -825,6 +808,8 @@ pub fn bound<'a>(
         list,
         places,
         first.count,
+        known,
+        memo,
     );
     note(notes, second.hopeless);
     second

@@ -5,7 +5,9 @@ ghost use lib.Dec.{T};
 ghost use lib.ListN.{length, getD, set};
 ghost use Rattle.mask.specs.Mask.{has};
 ghost use Rattle.table.specs.declared.Table.{Table};
-ghost use Rattle.schedule.specs.Arrays.{InLimits};
+ghost use Rattle.schedule.specs.Arrays.{tasksOf, InLimits};
+ghost use Rattle.conflict.specs.Entry.{tasksIn};
+ghost use Rattle.known.specs.Known.{Knows};
 ghost use Rattle.partial.specs.Partial.{Fits};
 ghost use Rattle.region.specs.Lends.{Lends};
 ghost use Rattle.branching.specs.Notes.{heavier};
@@ -47,12 +49,12 @@ pub fn noise(notes: &mut [u32]) -> u64
     next / 16777216
 }
 
-// The lower, the sooner task k is placed: few choices, a large weight; and a little noise, so that a restart chooses anew.
+// The lower, the sooner task k is placed: few choices, which count squared, and a large weight; and a little noise, so that a restart chooses anew.
 fn score(base: u32, choices: u64, k: usize, notes: &mut [u32]) -> u64
     requires { ⌜ (choices ≤ 8) × (k < 24) × (64 ≤ length (now notes)) ⌝ }
 {
     let weight = wide(base) + wide(notes[k]) + 1;
-    let plain = choices * 1073741824 / weight;
+    let plain = choices * choices * 67108864 / weight;
     plain + plain / 1024 * noise(notes) / 10
 }
 
@@ -68,13 +70,15 @@ fn passed_over<'a>(
     full: bool,
     list: &[u8],
     count: usize,
+    known: &mut [u32; 16384],
 ) -> bool
-    requires { ⌜ InLimits tasks (now work) (now period) (now deadline) (now priority) (now higher) set × (6 * count ≤ length (now list)) ⌝ }
+    requires { ⌜ InLimits tasks (now work) (now period) (now deadline) (now priority) (now higher) set × (6 * count ≤ length (now list)) × Knows (tasksOf tasks (now work) (now period) (now deadline) (now priority)) (now known) ⌝ }
+    ensures { λ _. ⌜ Knows (tasksOf tasks (now (work .entry)) (now (period .entry)) (now (deadline .entry)) (now (priority .entry))) (now (known .exit)) ⌝ }
 {
     if full {
-        return answer::covered(list, count, set);
+        return ledger::covered(list, count, set, known);
     }
-    schedule::is_late(work, period, deadline, priority, higher, tasks, set)
+    known::is_late(work, period, deadline, priority, higher, tasks, set, known)
 }
 
 // How many processors can take the open task k: the rules allow it, and the search would not pass over the set.
@@ -98,9 +102,11 @@ fn choices<'a>(
     full: bool,
     list: &[u8],
     count: usize,
+    known: &mut [u32; 16384],
 ) -> u64
-    requires { ⌜ ((t : Table) × Lends t sizes (now work) (now period) (now deadline) (now priority) (now higher) (now residence) (now memory) (now exclusions) (now co) (now sender) (now receiver) (now loads) (now amounts) × Fits t s) × T (has (s .left) k) × (6 * count ≤ length (now list)) ⌝ }
-    ensures { λ r. ⌜ r ≤ 8 ⌝ }
+    requires { ⌜ ((t : Table) × Lends t sizes (now work) (now period) (now deadline) (now priority) (now higher) (now residence) (now memory) (now exclusions) (now co) (now sender) (now receiver) (now loads) (now amounts) × Fits t s × Knows (tasksIn t) (now known)) × T (has (s .left) k) × (6 * count ≤ length (now list)) ⌝ }
+    ensures { λ r. ⌜ (r ≤ 8) × ((t : Table) → Lends t sizes (now (work .entry)) (now (period .entry)) (now (deadline .entry)) (now (priority .entry)) (now (higher .entry)) (now (residence .entry)) (now (memory .entry)) (now (exclusions .entry)) (now (co .entry)) (now (sender .entry)) (now (receiver .entry)) (now (loads .entry)) (now (amounts .entry))
+        → Fits t s → Knows (tasksIn t) (now (known .entry)) → Knows (tasksIn t) (now (known .exit))) ⌝ }
 {
     let mut found: u64 = 0;
     let mut p: usize = 0;
@@ -131,6 +137,7 @@ fn choices<'a>(
                 full,
                 list,
                 count,
+                known,
             ) {
                 found += 1;
             }
@@ -163,9 +170,11 @@ pub fn pick<'a>(
     places: usize,
     count: usize,
     notes: &mut [u32],
+    known: &mut [u32; 16384],
 ) -> usize
-    requires { ⌜ ((t : Table) × Lends t sizes (now work) (now period) (now deadline) (now priority) (now higher) (now residence) (now memory) (now exclusions) (now co) (now sender) (now receiver) (now loads) (now amounts) × Fits t s) × (0 < s .left) × (6 * count ≤ length (now list)) × (64 ≤ length (now notes)) ⌝ }
-    ensures { λ r. ⌜ T (has (s .left) r) ⌝ }
+    requires { ⌜ ((t : Table) × Lends t sizes (now work) (now period) (now deadline) (now priority) (now higher) (now residence) (now memory) (now exclusions) (now co) (now sender) (now receiver) (now loads) (now amounts) × Fits t s × Knows (tasksIn t) (now known)) × (0 < s .left) × (6 * count ≤ length (now list)) × (64 ≤ length (now notes)) ⌝ }
+    ensures { λ r. ⌜ T (has (s .left) r) × ((t : Table) → Lends t sizes (now (work .entry)) (now (period .entry)) (now (deadline .entry)) (now (priority .entry)) (now (higher .entry)) (now (residence .entry)) (now (memory .entry)) (now (exclusions .entry)) (now (co .entry)) (now (sender .entry)) (now (receiver .entry)) (now (loads .entry)) (now (amounts .entry))
+        → Fits t s → Knows (tasksIn t) (now (known .entry)) → Knows (tasksIn t) (now (known .exit))) ⌝ }
 {
     let full = listing && count == places;
     let mut best = mask::lowest(s.left);
@@ -193,6 +202,7 @@ pub fn pick<'a>(
             full,
             list,
             count,
+            known,
         );
         if found == 0 {
             blame(notes, k);

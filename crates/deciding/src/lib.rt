@@ -6,6 +6,7 @@ ghost use Rattle.table.specs.declared.Table.{Table};
 ghost use Rattle.rules.specs.Sets.{standing};
 ghost use Rattle.region.specs.Lends.{Lends};
 ghost use Rattle.region.specs.Begins.{Begins, Ready};
+ghost use Rattle.memo.specs.Memo.{Learnt};
 ghost use Rattle.deciding.specs.Deciding.{AttemptedAs, DecidedAs, CoveringAs};
 use partial::Sizes;
 use partial::State;
@@ -55,10 +56,12 @@ fn attempt<'a>(
     s: State,
     limited: bool,
     notes: &mut [u32],
+    known: &mut [u32; 16384],
+    memo: &mut [u64; 12288],
 ) -> Sought
-    requires { ⌜ ((t : Table) × Lends t sizes (now work) (now period) (now deadline) (now priority) (now higher) (now residence) (now memory) (now exclusions) (now co) (now sender) (now receiver) (now loads) (now amounts) × Ready t s) × (64 ≤ length (now notes)) ⌝ }
+    requires { ⌜ ((t : Table) × Lends t sizes (now work) (now period) (now deadline) (now priority) (now higher) (now residence) (now memory) (now exclusions) (now co) (now sender) (now receiver) (now loads) (now amounts) × Ready t s × Learnt t (now guide) (now known) (now memo)) × (64 ≤ length (now notes)) ⌝ }
     ensures { λ r. ⌜ ((t : Table) → Lends t sizes (now (work .entry)) (now (period .entry)) (now (deadline .entry)) (now (priority .entry)) (now (higher .entry)) (now (residence .entry)) (now (memory .entry)) (now (exclusions .entry)) (now (co .entry)) (now (sender .entry)) (now (receiver .entry)) (now (loads .entry)) (now (amounts .entry))
-        → Ready t s → AttemptedAs t limited (standing (s .on)) r) ⌝ }
+        → Ready t s → Learnt t (now (guide .entry)) (now (known .entry)) (now (memo .entry)) → AttemptedAs t limited (standing (s .on)) r × Learnt t (now (guide .entry)) (now (known .exit)) (now (memo .exit))) ⌝ }
 {
     copy_notes(notes, 0, 32);
     let mut no_list = [0u8; 3];
@@ -85,6 +88,8 @@ fn attempt<'a>(
         0,
         limited,
         notes,
+        known,
+        memo,
     )
 }
 
@@ -107,10 +112,12 @@ pub fn decide<'a>(
     sizes: Sizes,
     s: State,
     notes: &mut [u32],
+    known: &mut [u32; 16384],
+    memo: &mut [u64; 12288],
 ) -> Decided
-    requires { ⌜ ((t : Table) × Lends t sizes (now work) (now period) (now deadline) (now priority) (now higher) (now residence) (now memory) (now exclusions) (now co) (now sender) (now receiver) (now loads) (now amounts) × Ready t s) × (64 ≤ length (now notes)) ⌝ }
+    requires { ⌜ ((t : Table) × Lends t sizes (now work) (now period) (now deadline) (now priority) (now higher) (now residence) (now memory) (now exclusions) (now co) (now sender) (now receiver) (now loads) (now amounts) × Ready t s × Learnt t (now guide) (now known) (now memo)) × (64 ≤ length (now notes)) ⌝ }
     ensures { λ r. ⌜ ((t : Table) → Lends t sizes (now (work .entry)) (now (period .entry)) (now (deadline .entry)) (now (priority .entry)) (now (higher .entry)) (now (residence .entry)) (now (memory .entry)) (now (exclusions .entry)) (now (co .entry)) (now (sender .entry)) (now (receiver .entry)) (now (loads .entry)) (now (amounts .entry))
-        → Ready t s → DecidedAs (r .found) t (standing (s .on)) (r .on)) ⌝ }
+        → Ready t s → Learnt t (now (guide .entry)) (now (known .entry)) (now (memo .entry)) → DecidedAs (r .found) t (standing (s .on)) (r .on) × Learnt t (now (guide .entry)) (now (known .exit)) (now (memo .exit))) ⌝ }
 {
     let mut fuel: u32 = 300;
     while fuel < 87000 {
@@ -134,6 +141,8 @@ pub fn decide<'a>(
             s,
             true,
             notes,
+            known,
+            memo,
         );
         if sought.found || sought.none {
             let on = sought.on;
@@ -163,6 +172,8 @@ pub fn decide<'a>(
         s,
         false,
         notes,
+        known,
+        memo,
     );
     let on = last.on;
     Decided {
@@ -193,10 +204,12 @@ pub fn cover<'a>(
     places: usize,
     count: usize,
     notes: &mut [u32],
+    known: &mut [u32; 16384],
+    memo: &mut [u64; 12288],
 ) -> Covering
-    requires { ⌜ ((t : Table) × Lends t sizes (now work) (now period) (now deadline) (now priority) (now higher) (now residence) (now memory) (now exclusions) (now co) (now sender) (now receiver) (now loads) (now amounts) × Begins t true places s (now list) count) × (64 ≤ length (now notes)) ⌝ }
+    requires { ⌜ ((t : Table) × Lends t sizes (now work) (now period) (now deadline) (now priority) (now higher) (now residence) (now memory) (now exclusions) (now co) (now sender) (now receiver) (now loads) (now amounts) × Begins t true places s (now list) count × Learnt t (now guide) (now known) (now memo)) × (64 ≤ length (now notes)) ⌝ }
     ensures { λ r. ⌜ ((t : Table) → Lends t sizes (now (work .entry)) (now (period .entry)) (now (deadline .entry)) (now (priority .entry)) (now (higher .entry)) (now (residence .entry)) (now (memory .entry)) (now (exclusions .entry)) (now (co .entry)) (now (sender .entry)) (now (receiver .entry)) (now (loads .entry)) (now (amounts .entry))
-        → Begins t true places s (now (list .entry)) count → CoveringAs t places (standing (s .on)) (now (list .entry)) count (now (list .exit)) r) ⌝ }
+        → Begins t true places s (now (list .entry)) count → Learnt t (now (guide .entry)) (now (known .entry)) (now (memo .entry)) → CoveringAs t places (standing (s .on)) (now (list .entry)) count (now (list .exit)) r × Learnt t (now (guide .entry)) (now (known .exit)) (now (memo .exit))) ⌝ }
 {
     copy_notes(notes, 32, 0);
     let sought = seek::seek(
@@ -222,6 +235,8 @@ pub fn cover<'a>(
         count,
         false,
         notes,
+        known,
+        memo,
     );
     Covering {
         cut: sought.found,

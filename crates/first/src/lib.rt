@@ -10,6 +10,7 @@ ghost use Rattle.rules.specs.Sets.{standing};
 ghost use Rattle.region.specs.Lends.{Lends};
 ghost use Rattle.region.specs.Begins.{Begins, Ready};
 ghost use Rattle.deciding.specs.Deciding.{DecidedAs, CoveringAs};
+ghost use Rattle.memo.specs.Memo.{Learnt};
 ghost use Rattle.first.specs.First.{Placing, PassedBelow, TriedAs, FirstOf};
 use deciding::Covering;
 use deciding::Decided;
@@ -52,10 +53,12 @@ fn decide_on<'a>(
     k: usize,
     p: usize,
     notes: &mut [u32],
+    known: &mut [u32; 16384],
+    memo: &mut [u64; 12288],
 ) -> Decided
-    requires { ⌜ ((t : Table) × Lends t sizes (now work) (now period) (now deadline) (now priority) (now higher) (now residence) (now memory) (now exclusions) (now co) (now sender) (now receiver) (now loads) (now amounts) × Ready t s) × T (has (s .left) k) × (p < sizes .processors) × (64 ≤ length (now notes)) ⌝ }
+    requires { ⌜ ((t : Table) × Lends t sizes (now work) (now period) (now deadline) (now priority) (now higher) (now residence) (now memory) (now exclusions) (now co) (now sender) (now receiver) (now loads) (now amounts) × Ready t s × Learnt t (now guide) (now known) (now memo)) × T (has (s .left) k) × (p < sizes .processors) × (64 ≤ length (now notes)) ⌝ }
     ensures { λ r. ⌜ ((t : Table) → Lends t sizes (now (work .entry)) (now (period .entry)) (now (deadline .entry)) (now (priority .entry)) (now (higher .entry)) (now (residence .entry)) (now (memory .entry)) (now (exclusions .entry)) (now (co .entry)) (now (sender .entry)) (now (receiver .entry)) (now (loads .entry)) (now (amounts .entry))
-        → Ready t s → DecidedAs (r .found) t (andTask (standing (s .on)) k p) (r .on)) ⌝ }
+        → Ready t s → Learnt t (now (guide .entry)) (now (known .entry)) (now (memo .entry)) → DecidedAs (r .found) t (andTask (standing (s .on)) k p) (r .on) × Learnt t (now (guide .entry)) (now (known .exit)) (now (memo .exit))) ⌝ }
 {
     // Deciding lists nothing: it is lent a list without places.
     let mut no_list = [0u8; 3];
@@ -81,6 +84,7 @@ fn decide_on<'a>(
         &mut no_list,
         0,
         0,
+        known,
     );
     let next = entered.next;
     if !entered.passes {
@@ -105,6 +109,8 @@ fn decide_on<'a>(
         sizes,
         next,
         notes,
+        known,
+        memo,
     )
 }
 
@@ -132,10 +138,12 @@ fn pass_over<'a>(
     places: usize,
     count: usize,
     notes: &mut [u32],
+    known: &mut [u32; 16384],
+    memo: &mut [u64; 12288],
 ) -> Covering
-    requires { ⌜ ((t : Table) × Lends t sizes (now work) (now period) (now deadline) (now priority) (now higher) (now residence) (now memory) (now exclusions) (now co) (now sender) (now receiver) (now loads) (now amounts) × Begins t true places s (now list) count) × T (has (s .left) k) × (p < sizes .processors) × (64 ≤ length (now notes)) ⌝ }
+    requires { ⌜ ((t : Table) × Lends t sizes (now work) (now period) (now deadline) (now priority) (now higher) (now residence) (now memory) (now exclusions) (now co) (now sender) (now receiver) (now loads) (now amounts) × Begins t true places s (now list) count × Learnt t (now guide) (now known) (now memo)) × T (has (s .left) k) × (p < sizes .processors) × (64 ≤ length (now notes)) ⌝ }
     ensures { λ r. ⌜ ((t : Table) → Lends t sizes (now (work .entry)) (now (period .entry)) (now (deadline .entry)) (now (priority .entry)) (now (higher .entry)) (now (residence .entry)) (now (memory .entry)) (now (exclusions .entry)) (now (co .entry)) (now (sender .entry)) (now (receiver .entry)) (now (loads .entry)) (now (amounts .entry))
-        → Begins t true places s (now (list .entry)) count → CoveringAs t places (andTask (standing (s .on)) k p) (now (list .entry)) count (now (list .exit)) r) ⌝ }
+        → Begins t true places s (now (list .entry)) count → Learnt t (now (guide .entry)) (now (known .entry)) (now (memo .entry)) → CoveringAs t places (andTask (standing (s .on)) k p) (now (list .entry)) count (now (list .exit)) r × Learnt t (now (guide .entry)) (now (known .exit)) (now (memo .exit))) ⌝ }
 {
     let entered = seek::enter(
         work,
@@ -159,6 +167,7 @@ fn pass_over<'a>(
         list,
         places,
         count,
+        known,
     );
     let next = entered.next;
     if !entered.passes {
@@ -188,6 +197,8 @@ fn pass_over<'a>(
         places,
         entered.count,
         notes,
+        known,
+        memo,
     )
 }
 
@@ -219,10 +230,12 @@ fn try_processor<'a>(
     count: usize,
     cut: bool,
     notes: &mut [u32],
+    known: &mut [u32; 16384],
+    memo: &mut [u64; 12288],
 ) -> Tried
-    requires { ⌜ ((t : Table) × Lends t sizes (now work) (now period) (now deadline) (now priority) (now higher) (now residence) (now memory) (now exclusions) (now co) (now sender) (now receiver) (now loads) (now amounts) × Placing t places s k witness (now list) count × PassedBelow t s k p (now list) count cut) × (k < sizes .tasks) × (p < sizes .processors) × (64 ≤ length (now notes)) ⌝ }
+    requires { ⌜ ((t : Table) × Lends t sizes (now work) (now period) (now deadline) (now priority) (now higher) (now residence) (now memory) (now exclusions) (now co) (now sender) (now receiver) (now loads) (now amounts) × Placing t places s k witness (now list) count × PassedBelow t s k p (now list) count cut × Learnt t (now guide) (now known) (now memo)) × (k < sizes .tasks) × (p < sizes .processors) × (64 ≤ length (now notes)) ⌝ }
     ensures { λ r. ⌜ ((t : Table) → Lends t sizes (now (work .entry)) (now (period .entry)) (now (deadline .entry)) (now (priority .entry)) (now (higher .entry)) (now (residence .entry)) (now (memory .entry)) (now (exclusions .entry)) (now (co .entry)) (now (sender .entry)) (now (receiver .entry)) (now (loads .entry)) (now (amounts .entry))
-        → Placing t places s k witness (now (list .entry)) count → PassedBelow t s k p (now (list .entry)) count cut → TriedAs t places s k p witness (now (list .entry)) count cut (now (list .exit)) r) ⌝ }
+        → Placing t places s k witness (now (list .entry)) count → PassedBelow t s k p (now (list .entry)) count cut → Learnt t (now (guide .entry)) (now (known .entry)) (now (memo .entry)) → TriedAs t places s k p witness (now (list .entry)) count cut (now (list .exit)) r × Learnt t (now (guide .entry)) (now (known .exit)) (now (memo .exit))) ⌝ }
 {
     if mask::has(witness[p], k) {
         return Tried {
@@ -260,6 +273,8 @@ fn try_processor<'a>(
         k,
         p,
         notes,
+        known,
+        memo,
     );
     if decided.found {
         let on = decided.on;
@@ -301,6 +316,8 @@ fn try_processor<'a>(
         places,
         count,
         notes,
+        known,
+        memo,
     );
     Tried {
         taken: false,
@@ -335,10 +352,12 @@ pub fn first<'a>(
     count: usize,
     cut: bool,
     notes: &mut [u32],
+    known: &mut [u32; 16384],
+    memo: &mut [u64; 12288],
 ) -> Reached
-    requires { ⌜ ((t : Table) × Lends t sizes (now work) (now period) (now deadline) (now priority) (now higher) (now residence) (now memory) (now exclusions) (now co) (now sender) (now receiver) (now loads) (now amounts) × Placing t places s k witness (now list) count) × (64 ≤ length (now notes)) ⌝ }
+    requires { ⌜ ((t : Table) × Lends t sizes (now work) (now period) (now deadline) (now priority) (now higher) (now residence) (now memory) (now exclusions) (now co) (now sender) (now receiver) (now loads) (now amounts) × Placing t places s k witness (now list) count × Learnt t (now guide) (now known) (now memo)) × (64 ≤ length (now notes)) ⌝ }
     ensures { λ r. ⌜ ((t : Table) → Lends t sizes (now (work .entry)) (now (period .entry)) (now (deadline .entry)) (now (priority .entry)) (now (higher .entry)) (now (residence .entry)) (now (memory .entry)) (now (exclusions .entry)) (now (co .entry)) (now (sender .entry)) (now (receiver .entry)) (now (loads .entry)) (now (amounts .entry))
-        → Placing t places s k witness (now (list .entry)) count → FirstOf t places s (now (list .entry)) count cut (now (list .exit)) r) ⌝ }
+        → Placing t places s k witness (now (list .entry)) count → Learnt t (now (guide .entry)) (now (known .entry)) (now (memo .entry)) → FirstOf t places s (now (list .entry)) count cut (now (list .exit)) r × Learnt t (now (guide .entry)) (now (known .exit)) (now (memo .exit))) ⌝ }
 {
     let on = s.on;
     if k == sizes.tasks {
@@ -373,6 +392,8 @@ pub fn first<'a>(
             at,
             marked,
             notes,
+            known,
+            memo,
         );
         at = tried.count;
         marked = tried.cut;
@@ -417,6 +438,8 @@ pub fn first<'a>(
                 at,
                 marked,
                 notes,
+                known,
+                memo,
             );
         }
         p += 1;

@@ -1,28 +1,16 @@
 -- What the search may conclude from the verdict on a set. Assumes nothing.
-use mathlib.Core.Bool.{Bool, true, false, _&&_}
+use mathlib.Core.Bool.{Bool, true, false}
 use mathlib.Core.Logic.{inl, inr}
 use mathlib.Core.List.{List}
-use Prim.Native.Nat.{ℕ, _%_, _<_}
+use Prim.Native.Nat.{ℕ}
 use native.Mathlib.Omega.{arith}
-use lib.Dec.{T, eqb}
-use Rattle.finite.specs.Finite.{only}
+use lib.Dec.{T}
 use Rattle.mask.specs.Mask.{has}
 use Rattle.schedule.specs.Periodic.{Tasks, Valid, Constrained, LateSet}
 use Rattle.schedule.proofs.LateSets.{late-within}
-use Rattle.conflict.specs.Conflict.{Minimal}
 use Rattle.answer.specs.Answer.{maskAt}
 use Rattle.ledger.specs.Ledger.{Covered, Ledger, Grows, Bad, Clear}
 use Rattle.ledger.proofs.Growth.{covered-grows, covered-back, covered-more}
-
--- a late set has a task
-pub minimal-member : {s : Tasks} {c : ℕ} → Minimal s c → (k : ℕ) × T (has c k)
-minimal-member {s} {c} m =
-    let l = m .late in
-    (l .task, member (has c (l .task)) (eqb (l .tick % s .T (l .task)) 0) (s .C (l .task)) (omega (arith, l .late .unfinished-at)))
-  where
-    member : (b d : Bool) (work : ℕ) → 0 < only (b && d) work → T b
-    member true d work h = tt
-    member false d work h = omega arith
 
 -- ---- the list grows
 

@@ -1,11 +1,35 @@
 // The test of a set of tasks for one processor, and the list of conflicts that it fills.
+ghost use mathlib.Core.Path.{_≡_};
+ghost use Prim.Native.Nat.{_*_, _≤_};
+ghost use lib.ListN.{length};
+ghost use Rattle.finite.specs.Finite.{someBelow};
+ghost use Rattle.mask.specs.Mask.{within};
+ghost use Rattle.schedule.specs.Periodic.{Tasks};
 ghost use Rattle.schedule.specs.Arrays.{tasksOf, InLimits};
+ghost use Rattle.answer.specs.Answer.{maskAt};
+ghost use Rattle.known.specs.Known.{Knows};
 ghost use Rattle.ledger.specs.Ledger.{Ledger, Noted};
 
 // Whether the set may not stand on a processor, and how many conflicts are listed then.
 pub struct Tested {
     pub bad: bool,
     pub count: usize,
+}
+
+// Whether one of the first `count` conflicts is a subset of the set. The table says which it was the last time: a hint, which is looked at first.
+// A conflict is a set of at most 24 tasks, so its number has 24 bits.
+pub fn covered(list: &[u8], count: usize, set: u32, known: &mut [u32; 16384]) -> bool
+    requires { ⌜ 6 * count ≤ length (now list) ⌝ }
+    ensures { λ r. ⌜ (r ≡ someBelow count (λ j. within (maskAt (now (list .entry)) j) set)) × ((s : Tasks) → Knows s (now (known .entry)) → Knows s (now (known .exit))) ⌝ }
+{
+    let at = 8192 + known::place_of(set);
+    let hint = (known[at] % 16777216) as usize;
+    if hint < count && answer::holds(list, hint, set) {
+        return true;
+    }
+    let number = answer::covering(list, count, set);
+    known[at] = (number % 16777216) as u32;
+    number < count
 }
 
 // Tests a set. Where conflicts are listed, a late set must hold a listed one: one of its own is appended while there are places.
@@ -21,17 +45,18 @@ pub fn test<'a>(
     list: &mut [u8],
     places: usize,
     count: usize,
+    known: &mut [u32; 16384],
 ) -> Tested
-    requires { ⌜ InLimits n (now c) (now t) (now d) (now priority) (now higher) set × Ledger (tasksOf n (now c) (now t) (now d) (now priority)) places (now list) count ⌝ }
-    ensures { λ r. ⌜ Noted (tasksOf n (now (c .entry)) (now (t .entry)) (now (d .entry)) (now (priority .entry))) listing places set (now (list .entry)) count (now (list .exit)) r ⌝ }
+    requires { ⌜ InLimits n (now c) (now t) (now d) (now priority) (now higher) set × Ledger (tasksOf n (now c) (now t) (now d) (now priority)) places (now list) count × Knows (tasksOf n (now c) (now t) (now d) (now priority)) (now known) ⌝ }
+    ensures { λ r. ⌜ Noted (tasksOf n (now (c .entry)) (now (t .entry)) (now (d .entry)) (now (priority .entry))) listing places set (now (list .entry)) count (now (list .exit)) r × Knows (tasksOf n (now (c .entry)) (now (t .entry)) (now (d .entry)) (now (priority .entry))) (now (known .exit)) ⌝ }
 {
-    if !schedule::is_late(c, t, d, priority, higher, n, set) {
+    if !known::is_late(c, t, d, priority, higher, n, set, known) {
         return Tested { bad: false, count };
     }
     if !listing {
         return Tested { bad: true, count };
     }
-    if answer::covered(list, count, set) {
+    if covered(list, count, set, known) {
         return Tested { bad: true, count };
     }
     if count == places {

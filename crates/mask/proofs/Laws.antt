@@ -1,6 +1,6 @@
 -- Laws of masks, for any width. Assumes nothing.
 use mathlib.Core.Path.{_≡_, refl, sym, ap, _∙_}
-use mathlib.Core.Logic.{_≢_}
+use mathlib.Core.Logic.{_≢_, ⊎-elim}
 use mathlib.Core.Bool.{Bool, true, false, not, _&&_, _||_, and-false}
 use Prim.Native.Nat.{ℕ, zero, suc, _+_, _-_, _*_, _/_, _%_, _^_, _<_, _≤_, min, max}
 use native.Mathlib.Nat.{one-mul, div-one, div-eq-of-lt, div-mul-le-self, mod-le, mul-le-mul-right, pow-suc, zero-div, le-of-suc-le-suc, lt-of-not-le, lt-of-lt-of-le, lt-of-le-of-lt, le-antisymm, mul-assoc, le-div-iff-mul-le, div-lt-iff-lt-mul, le-of-eq}
@@ -13,6 +13,7 @@ use lib.Count.{ones, ones-step, trailingZeros, under}
 use lib.Pow.{shl-exact, pow-add, pow-mono, pow-pos, shr-shr}
 use Rattle.finite.specs.Finite.{only, sumTo}
 use Rattle.finite.proofs.Sum.{sum-at, sum-ext}
+use Rattle.finite.proofs.Some.{or-either}
 use Rattle.finite.proofs.First.{First, first, found, missing}
 use Rattle.mask.proofs.Tests.{same-test, and-both, and-left, and-right}
 use Rattle.mask.specs.Mask.{bit, has, Subset, within, below, size, insertOf, removeOf, lowestOf, maskOf}
@@ -196,6 +197,10 @@ has-below n m f = lt→ltb m (2 ^ n) (lt-of-not-le (λ (l : 2 ^ n ≤ m).
 -- and so are a subset's
 pub subset-below : (n c s : ℕ) → Subset c s → T (below n s) → T (below n c)
 subset-below n c s sub h = has-below n c (λ k t. below-has n s h k (sub k t))
+
+-- and those with one more
+pub insert-below : (n m k : ℕ) → T (below n m) → k < n → T (below n (insertOf m k))
+insert-below n m k low l = has-below n (insertOf m k) (λ j u. ⊎-elim (λ e. rw (eqb→eq j k e) l) (below-has n m low j) (or-either (eqb j k) (has m j) (rw (has-insert m k j) at u)))
 
 -- nothing is left above digit n
 pub none-above : (n m : ℕ) → eqb (m / 2 ^ n) 0 ≡ below n m

@@ -11,7 +11,7 @@ use lib.Dec.{T, eqb, eqb→eq}
 use lib.ListN.{getD}
 use Rattle.finite.proofs.Some.{or-left, or-right, or-either, Answer, passes, fails, answer}
 use Rattle.mask.specs.Mask.{has, Subset, below, insertOf, removeOf}
-use Rattle.mask.proofs.Laws.{has-insert, has-remove, remove-subset, remove-mono, has-below, below-has, subset-below}
+use Rattle.mask.proofs.Laws.{has-insert, has-remove, remove-subset, remove-mono, below-has, subset-below, insert-below}
 use Rattle.schedule.specs.Periodic.{Tasks}
 use Rattle.schedule.specs.Arrays.{tasksOf, InLimits}
 use Rattle.schedule.proofs.TasksOfArrays.{valid-of, constrained-of}
@@ -35,10 +35,6 @@ limits-set h low = record {
   ranked = h .ranked;
   inside = low;
 }
-
--- a task more
-pub insert-below : (n m k : ℕ) → T (below n m) → k < n → T (below n (insertOf m k))
-insert-below n m k low l = has-below n (insertOf m k) (λ j u. ⊎-elim (λ e. rw (eqb→eq j k e) l) (below-has n m low j) (or-either (eqb j k) (has m j) (rw (has-insert m k j) at u)))
 
 -- ---- the candidate k
 

@@ -3,6 +3,7 @@ ghost use mathlib.Core.Path.{_≡_};
 ghost use Prim.Native.Nat.{_+_, _<_};
 ghost use lib.ListN.{getD};
 ghost use Rattle.schedule.specs.Arrays.{tasksOf};
+ghost use Rattle.known.specs.Known.{Knows};
 ghost use Rattle.packing.specs.Packing.{weightOf, hasRoom, Packs, PackedAs, TakenAs};
 
 // No less than the most weight that a processor can take, and how many conflicts are listed then.
@@ -67,10 +68,11 @@ fn take<'a>(
     list: &mut [u8],
     places: usize,
     count: usize,
+    known: &mut [u32; 16384],
 ) -> Packed
     requires { ⌜ Packs n (now work) (now period) (now deadline) (now priority) (now higher) places on candidates (now list) count
-        × (k < n) × (reach ≡ weight + getD (now weights) k 0 + weightOf n (now weights) candidates) ⌝ }
-    ensures { λ r. ⌜ TakenAs n (tasksOf n (now (work .entry)) (now (period .entry)) (now (deadline .entry)) (now (priority .entry))) listing places (now (memory .entry)) (now (exclusions .entry)) (now (loads .entry)) (now (weights .entry)) on k candidates space spare weight stop best (now (list .entry)) count (now (list .exit)) r ⌝ }
+        × (k < n) × (reach ≡ weight + getD (now weights) k 0 + weightOf n (now weights) candidates) × Knows (tasksOf n (now work) (now period) (now deadline) (now priority)) (now known) ⌝ }
+    ensures { λ r. ⌜ TakenAs n (tasksOf n (now (work .entry)) (now (period .entry)) (now (deadline .entry)) (now (priority .entry))) listing places (now (memory .entry)) (now (exclusions .entry)) (now (loads .entry)) (now (weights .entry)) on k candidates space spare weight stop best (now (list .entry)) count (now (list .exit)) r × Knows (tasksOf n (now (work .entry)) (now (period .entry)) (now (deadline .entry)) (now (priority .entry))) (now (known .exit)) ⌝ }
 {
     if !room(memory, exclusions, loads, on, space, spare, k) {
         return Packed { most: best, count };
@@ -88,6 +90,7 @@ fn take<'a>(
         list,
         places,
         count,
+        known,
     );
     if tested.bad {
         return Packed {
@@ -120,6 +123,7 @@ fn take<'a>(
         list,
         places,
         tested.count,
+        known,
     )
 }
 
@@ -150,10 +154,11 @@ pub fn most<'a>(
     list: &mut [u8],
     places: usize,
     count: usize,
+    known: &mut [u32; 16384],
 ) -> Packed
     requires { ⌜ Packs n (now work) (now period) (now deadline) (now priority) (now higher) places on candidates (now list) count
-        × (reach ≡ weight + weightOf n (now weights) candidates) ⌝ }
-    ensures { λ r. ⌜ PackedAs n (tasksOf n (now (work .entry)) (now (period .entry)) (now (deadline .entry)) (now (priority .entry))) listing places (now (memory .entry)) (now (exclusions .entry)) (now (loads .entry)) (now (weights .entry)) on candidates space spare weight stop best (now (list .entry)) count (now (list .exit)) r ⌝ }
+        × (reach ≡ weight + weightOf n (now weights) candidates) × Knows (tasksOf n (now work) (now period) (now deadline) (now priority)) (now known) ⌝ }
+    ensures { λ r. ⌜ PackedAs n (tasksOf n (now (work .entry)) (now (period .entry)) (now (deadline .entry)) (now (priority .entry))) listing places (now (memory .entry)) (now (exclusions .entry)) (now (loads .entry)) (now (weights .entry)) on candidates space spare weight stop best (now (list .entry)) count (now (list .exit)) r × Knows (tasksOf n (now (work .entry)) (now (period .entry)) (now (deadline .entry)) (now (priority .entry))) (now (known .exit)) ⌝ }
 {
     let mut next = at;
     let mut left = candidates;
@@ -164,7 +169,8 @@ pub fn most<'a>(
         top = weight;
     }
     while next < 24 && top < stop && top < all {
-        let k = (guide[72 + next] % 24) as usize;
+        // The remainder costs nothing, and below 32 is all that `has` asks: a candidate is below n anyway.
+        let k = (guide[72 + next] % 32) as usize;
         next += 1;
         if mask::has(left, k) {
             left = mask::remove(left, k);
@@ -194,6 +200,7 @@ pub fn most<'a>(
                 list,
                 places,
                 listed,
+                known,
             );
             top = taken.most;
             listed = taken.count;

@@ -8,12 +8,14 @@ use native.Mathlib.Omega.{arith}
 use lib.Dec.{T}
 use lib.ListN.{length, getD}
 use Rattle.mask.specs.Mask.{has}
+use Rattle.mask.proofs.Laws.{has-zero, has-below}
 use Rattle.table.specs.declared.Table.{Table}
 use Rattle.table.specs.Sound.{Sound}
 use Rattle.schedule.proofs.LateSets.{late-set}
-use Rattle.schedule.specs.Arrays.{higherOf}
+use Rattle.schedule.specs.Arrays.{InLimits, higherOf}
 use Rattle.rules.specs.Sets.{standing}
 use Rattle.conflict.specs.Entry.{tasksIn}
+use Rattle.conflict.proofs.Limits.{limits-of}
 use Rattle.judge.proofs.Limits.{valid-tasks, constrained-tasks}
 use Rattle.ledger.proofs.Append.{ledger-start}
 use Rattle.columns.specs.Columns.{loadsOf, amountsOf, exclusionsOf}
@@ -107,3 +109,8 @@ lends-table h s ranked e l a = record {
   same-priority = refl;
   ranked = ranked;
 }
+
+-- the same columns, for the guide, with no task yet
+pub guide-limits : {t : Table} → Sound t → {r : Sizes} → SizesOf t r → {higher : List ℕ} → higher ≡ higherOf (t .tasks .count) (t .tasks .priority)
+    → InLimits (r .tasks) (t .tasks .c) (t .tasks .t) (t .tasks .d) (t .tasks .priority) higher 0
+guide-limits {t} h s e = rw (s .tasks, e) (limits-of h 0 (has-below (t .tasks .count) 0 (λ k u. absurd (rw (has-zero k) at u))))

@@ -10,7 +10,6 @@ use lib.ListN.{getD}
 use Rattle.mask.specs.Mask.{has, Subset}
 use Rattle.table.specs.declared.Table.{Table}
 use Rattle.table.specs.Sound.{Sound}
-use Rattle.schedule.specs.Periodic.{Tasks}
 use Rattle.rules.specs.Placement.{andTask}
 use Rattle.rules.specs.Sets.{standing}
 use Rattle.conflict.specs.Entry.{tasksIn}
@@ -37,10 +36,6 @@ other-set on k p r f j = go (eqb j k)
 -- the state of a step that the rules allow
 pub step-allowed : {t : Table} {s : State} {k p : ℕ} (allowed : Bool) {next : State} → StepOf t s k p allowed next → not allowed ≡ false → Stepped t s k p next
 step-allowed {t} {s} {k} {p} allowed {next} f e = subst (λ (a : Bool). StepOf t s k p a next) (not-false allowed e) f
-
--- what the test of a set leaves, by the tasks of the table
-pub noted-as : {x y : Tasks} {listing : Bool} {places set : ℕ} {old new : List ℕ} {before : ℕ} {r : Tested} → x ≡ y → Noted x listing places set old before new r → Noted y listing places set old before new r
-noted-as {listing = listing} {places} {set} {old} {new} {before} {r} e = subst (λ (z : Tasks). Noted z listing places set old before new r) e
 
 module _ {t : Table} (h : Sound t) {listing : Bool} {places : ℕ} {s : State} {old : List ℕ} {count : ℕ} (b : Begins t listing places s old count) (k p : ℕ) where
   -- the rules do not allow it

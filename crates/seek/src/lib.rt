@@ -10,6 +10,9 @@ ghost use Rattle.table.specs.declared.Table.{Table};
 ghost use Rattle.rules.specs.Sets.{standing};
 ghost use Rattle.region.specs.Lends.{Lends};
 ghost use Rattle.region.specs.Begins.{Begins};
+ghost use Rattle.conflict.specs.Entry.{tasksIn};
+ghost use Rattle.known.specs.Known.{Knows};
+ghost use Rattle.memo.specs.Memo.{Learnt};
 ghost use Rattle.seek.specs.Seek.{EnteredAs, ExploredAs, SoughtIn};
 use partial::Sizes;
 use partial::State;
@@ -89,10 +92,11 @@ pub fn enter<'a>(
     list: &mut [u8],
     places: usize,
     count: usize,
+    known: &mut [u32; 16384],
 ) -> Entered
-    requires { ⌜ ((t : Table) × Lends t sizes (now work) (now period) (now deadline) (now priority) (now higher) (now residence) (now memory) (now exclusions) (now co) (now sender) (now receiver) (now loads) (now amounts) × Begins t listing places s (now list) count) × T (has (s .left) k) × (p < sizes .processors) ⌝ }
+    requires { ⌜ ((t : Table) × Lends t sizes (now work) (now period) (now deadline) (now priority) (now higher) (now residence) (now memory) (now exclusions) (now co) (now sender) (now receiver) (now loads) (now amounts) × Begins t listing places s (now list) count × Knows (tasksIn t) (now known)) × T (has (s .left) k) × (p < sizes .processors) ⌝ }
     ensures { λ r. ⌜ ((t : Table) → Lends t sizes (now (work .entry)) (now (period .entry)) (now (deadline .entry)) (now (priority .entry)) (now (higher .entry)) (now (residence .entry)) (now (memory .entry)) (now (exclusions .entry)) (now (co .entry)) (now (sender .entry)) (now (receiver .entry)) (now (loads .entry)) (now (amounts .entry))
-        → Begins t listing places s (now (list .entry)) count → EnteredAs t listing places s k p (now (list .entry)) count (now (list .exit)) r) ⌝ }
+        → Begins t listing places s (now (list .entry)) count → Knows (tasksIn t) (now (known .entry)) → EnteredAs t listing places s k p (now (list .entry)) count (now (list .exit)) r × Knows (tasksIn t) (now (known .exit))) ⌝ }
 {
     let step = partial::step(
         residence,
@@ -128,6 +132,7 @@ pub fn enter<'a>(
         list,
         places,
         count,
+        known,
     );
     Entered {
         passes: !tested.bad,
@@ -162,10 +167,12 @@ fn explore<'a>(
     count: usize,
     limited: bool,
     notes: &mut [u32],
+    known: &mut [u32; 16384],
+    memo: &mut [u64; 12288],
 ) -> Sought
-    requires { ⌜ ((t : Table) × Lends t sizes (now work) (now period) (now deadline) (now priority) (now higher) (now residence) (now memory) (now exclusions) (now co) (now sender) (now receiver) (now loads) (now amounts) × Begins t listing places s (now list) count) × T (has (s .left) k) × (p < sizes .processors) × (64 ≤ length (now notes)) ⌝ }
+    requires { ⌜ ((t : Table) × Lends t sizes (now work) (now period) (now deadline) (now priority) (now higher) (now residence) (now memory) (now exclusions) (now co) (now sender) (now receiver) (now loads) (now amounts) × Begins t listing places s (now list) count × Learnt t (now guide) (now known) (now memo)) × T (has (s .left) k) × (p < sizes .processors) × (64 ≤ length (now notes)) ⌝ }
     ensures { λ r. ⌜ ((t : Table) → Lends t sizes (now (work .entry)) (now (period .entry)) (now (deadline .entry)) (now (priority .entry)) (now (higher .entry)) (now (residence .entry)) (now (memory .entry)) (now (exclusions .entry)) (now (co .entry)) (now (sender .entry)) (now (receiver .entry)) (now (loads .entry)) (now (amounts .entry))
-        → Begins t listing places s (now (list .entry)) count → ExploredAs t listing limited places s k p (now (list .entry)) count (now (list .exit)) r) ⌝ }
+        → Begins t listing places s (now (list .entry)) count → Learnt t (now (guide .entry)) (now (known .entry)) (now (memo .entry)) → ExploredAs t listing limited places s k p (now (list .entry)) count (now (list .exit)) r × Learnt t (now (guide .entry)) (now (known .exit)) (now (memo .exit))) ⌝ }
 {
     let on = s.on;
     if twin::twin(residence, memory, loads, s, p) != p {
@@ -198,6 +205,7 @@ fn explore<'a>(
         list,
         places,
         count,
+        known,
     );
     if !entered.passes {
         return Sought {
@@ -231,6 +239,8 @@ fn explore<'a>(
         entered.count,
         limited,
         notes,
+        known,
+        memo,
     )
 }
 
@@ -258,10 +268,12 @@ pub fn seek<'a>(
     count: usize,
     limited: bool,
     notes: &mut [u32],
+    known: &mut [u32; 16384],
+    memo: &mut [u64; 12288],
 ) -> Sought
-    requires { ⌜ ((t : Table) × Lends t sizes (now work) (now period) (now deadline) (now priority) (now higher) (now residence) (now memory) (now exclusions) (now co) (now sender) (now receiver) (now loads) (now amounts) × Begins t listing places s (now list) count) × (64 ≤ length (now notes)) ⌝ }
+    requires { ⌜ ((t : Table) × Lends t sizes (now work) (now period) (now deadline) (now priority) (now higher) (now residence) (now memory) (now exclusions) (now co) (now sender) (now receiver) (now loads) (now amounts) × Begins t listing places s (now list) count × Learnt t (now guide) (now known) (now memo)) × (64 ≤ length (now notes)) ⌝ }
     ensures { λ r. ⌜ ((t : Table) → Lends t sizes (now (work .entry)) (now (period .entry)) (now (deadline .entry)) (now (priority .entry)) (now (higher .entry)) (now (residence .entry)) (now (memory .entry)) (now (exclusions .entry)) (now (co .entry)) (now (sender .entry)) (now (receiver .entry)) (now (loads .entry)) (now (amounts .entry))
-        → Begins t listing places s (now (list .entry)) count → SoughtIn t listing limited places (standing (s .on)) (now (list .entry)) count (now (list .exit)) r) ⌝ }
+        → Begins t listing places s (now (list .entry)) count → Learnt t (now (guide .entry)) (now (known .entry)) (now (memo .entry)) → SoughtIn t listing limited places (standing (s .on)) (now (list .entry)) count (now (list .exit)) r × Learnt t (now (guide .entry)) (now (known .exit)) (now (memo .exit))) ⌝ }
 {
     let on = s.on;
     if gives_up(limited, notes) {
@@ -302,6 +314,8 @@ pub fn seek<'a>(
         places,
         count,
         notes,
+        known,
+        memo,
     );
     if bounded.hopeless {
         return Sought {
@@ -333,6 +347,7 @@ pub fn seek<'a>(
         places,
         bounded.count,
         notes,
+        known,
     );
     let first = offset(sizes.processors, notes);
     let mut at = bounded.count;
@@ -364,6 +379,8 @@ pub fn seek<'a>(
             at,
             limited,
             notes,
+            known,
+            memo,
         );
         if !sought.none {
             return sought;

@@ -1,7 +1,6 @@
 -- `lower` meets its contract. Assumes nothing.
-use mathlib.Core.Path.{refl}
-use mathlib.Core.Logic.{inl, inr}
 use native.Mathlib.Omega.{arith}
+use Rattle.bound.proofs.Weighted.{lower-left, lower-right}
 use Rattle.bound.proofs.lower.Statement.{statement}
 use Rattle.bound.proofs.lower.Tie as tie
 
@@ -9,5 +8,5 @@ pub lower-spec : {M : Type 1} → statement M
 lower-spec =
     tie.close
     (tie.spec
-    (λ c. (omega arith, omega arith, inl refl))  -- returns
-    (λ c. (omega arith, omega arith, inr refl)))  -- returns-2
+    (λ c. lower-left _ _ (c .if1 .taken))  -- returns
+    (λ c. lower-right _ _ (omega arith)))  -- returns-2

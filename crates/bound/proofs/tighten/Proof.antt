@@ -1,9 +1,8 @@
--- `tighten` meets its contract. Assumes nothing.
+-- The bound of an earlier processor that can take just what p can, or by packing.
 use native.Mathlib.Omega.{arith}
 use borrow.Author.Needs.{needs}
-use Rattle.region.proofs.Lending.{lent-tasks, lent-limits, set-below}
-use Rattle.bound.proofs.Choosing.{below-more, eligible-below}
-use Rattle.bound.proofs.Tightening.{tight-like, tight-packed, packed-as}
+use Rattle.bound.proofs.Weighted.{lower-is}
+use Rattle.bound.proofs.Tightening.{tight-like}
 use Rattle.bound.proofs.tighten.Statement.{statement}
 use Rattle.bound.proofs.tighten.Tie as tie
 
@@ -11,38 +10,24 @@ pub tighten-spec : {M : Type 1} → statement M
 tighten-spec =
     tie.close
     (tie.spec
-    (λ c. search needs)  -- mul-most
-    (λ c. search needs)  -- array-read-most
     (λ c κs. search needs)  -- like-requires
     (λ c. search needs)  -- mul-lower
     (λ c. search needs)  -- array-read-lower
+    (λ c. search needs)  -- mul-lower-2
+    (λ c. search needs)  -- array-read-lower-2
     (λ c κs. search needs)  -- lower-requires
     (λ c.
     let k = c .before .before in
-    let z = k .before .before in
-    λ t l f w e o.
-    tight-like o (rw (← l .rules .processors) (z .pre .2)) w (omega (arith, l .rules .processors, z .pre .2, k .like .ensures .0)) (k .like .ensures .1 (c .before .if1 .taken)) (c .lower .ensures))  -- returns
-    (λ c. search needs)  -- mul-set
-    (λ c. search needs)  -- array-read-set
+    let z = k .before .before .pre in
+    λ t l f w e o m. (
+      tight-like o (rw (← l .rules .processors) (z .2)) w (omega (arith, l .rules .processors, z .2, k .like .ensures .0)) (k .like .ensures .1 (c .before .if1 .taken)) (lower-is _ _ (c .lower .ensures)),
+      m,
+    ))  -- returns
     (λ c κs.
-    let z = c .before .before .before .pre in
-    let l = z .0 .1 in
-    (below-more _ 24 _ (l .rules .sound .tasks .most) (eligible-below (z .0 .2) (z .0 .4 _ (rw (← l .rules .processors) (z .2)))), z .1))  -- weight-of-requires
-    (λ c. search needs)  -- mul-most-2
-    (λ c. search needs)  -- element-copy-out-most
-    (λ c. search needs)  -- mul-most-3
-    (λ c. search needs)  -- element-copy-out-most-2
-    (λ c. search needs)  -- mul-most-4
-    (λ c. search needs)  -- element-copy-out-most-3
-    (λ c κs.
-    let r = c .before .before .before .before in
-    let z = r .before .before .before .before .pre in
-    let l = z .0 .1 in
-    let b = eligible-below (z .0 .2) (z .0 .4 _ (rw (← l .rules .processors) (z .2))) in
-    (record { limits = lent-limits l (set-below (z .0 .2 .partial) _); tasks = rw (l .rules .tasks) b; ledger = rw (lent-tasks l) (z .0 .3) }, omega (arith, r .weight-of .ensures .1 (r .before .before .before .before .args .sizes .tasks) (rw (l .rules .tasks) b))))  -- most-requires
-    (λ c κs. search needs)  -- lower-requires-2
+    let z = c .before .before .before .before .before .before .pre in
+    ((z .0 .0, z .0 .1, z .0 .2, z .0 .3, z .0 .4, z .0 .5, z .0 .6 .knows), z .1, z .2))  -- pack-requires
     (λ c. search needs)  -- same-length
-    (λ c.
-    let x = c .before .before .before in
-    let z = x .before .before .before .before .before .before .before .before .before in
-    λ t l f w e o. tight-packed o (rw (← l .rules .processors) (z .pre .2)) (l .rules .sound) f (e _ (rw (← l .rules .processors) (z .pre .2))) (x .most .result) (packed-as l (x .most .ensures)) (c .lower2 .ensures)))  -- returns-2
+    (λ c t l f w e o m. let a = c .before .before .pack .ensures t l f w e o (m .knows) in (a .0, record { knows = a .1; keeps = m .keeps }))  -- returns-2
+    (λ c κs. let z = c .before .before .before .before .before .before .before .pre in (z .0, z .1, z .2, z .3, c .before .before .before .if2 .left))  -- pack-once-requires
+    (λ c. search needs)  -- same-length-2
+    (λ c t l f w e o m. c .before .before .pack-once .ensures t l f w e o m))  -- returns-3

@@ -1,6 +1,6 @@
 -- `top` meets its contract. Assumes nothing.
 use borrow.Author.Needs.{needs}
-use Rattle.bound.proofs.Weighted.{top-all, top-load, top-memory}
+use Rattle.bound.proofs.Weighted.{lower-is, top-all, top-load, top-memory}
 use Rattle.bound.proofs.top.Statement.{statement}
 use Rattle.bound.proofs.top.Tie as tie
 
@@ -10,7 +10,7 @@ top-spec =
     (tie.spec
     (λ c κs. search needs)  -- weight-of-requires
     (λ c κs. search needs)  -- lower-requires
-    (λ c. let a = c .before .before in top-load _ _ (a .weight-of .ensures .1) (c .before .if1 .taken) (a .weight-of .ensures .0) (c .lower .ensures))  -- returns
+    (λ c. let a = c .before .before in top-load _ _ (a .weight-of .ensures .1) (c .before .if1 .taken) (a .weight-of .ensures .0) (lower-is _ _ (c .lower .ensures)))  -- returns
     (λ c κs. search needs)  -- lower-requires-2
-    (λ c. let a = c .before .before .before in top-memory _ _ (a .weight-of .ensures .1) (c .before .if2 .taken) (a .weight-of .ensures .0) (c .lower2 .ensures))  -- returns-2
+    (λ c. let a = c .before .before .before in top-memory _ _ (a .weight-of .ensures .1) (c .before .if2 .taken) (a .weight-of .ensures .0) (lower-is _ _ (c .lower2 .ensures)))  -- returns-2
     (λ c. let a = c .before .before in top-all _ _ (a .weight-of .ensures .1) (a .weight-of .ensures .0)))  -- returns-3

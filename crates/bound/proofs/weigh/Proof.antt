@@ -10,20 +10,21 @@ use Rattle.conflict.specs.Entry.{tasksIn}
 use Rattle.ledger.specs.Ledger.{Ledger, Bad}
 use Rattle.partial.specs.Partial.{Fits}
 use Rattle.region.specs.Lends.{Lends}
-use Rattle.bound.specs.Weighing.{Choices}
-use Rattle.bound.proofs.Choosing.{below-more, open-below, eligible-below}
+use Rattle.offer.specs.Offer.{Choices}
+use Rattle.offer.proofs.Choosing.{below-more, open-below, eligible-below}
 use Rattle.bound.proofs.Tightening.{tops-start, Tightening, tightening-start, tightening-next, tightening-end}
+use Rattle.memo.specs.Memo.{Learnt}
 use Rattle.bound.proofs.weigh.Statement.{statement}
 use Rattle.bound.proofs.weigh.Tie as tie
 
 abbrev Inv-loop : tie.InvT-loop
-Inv-loop work period deadline priority higher residence memory exclusions co sender receiver loads amounts guide row sizes s sets listing list₀ places count m weights need tops₀ sum₀ listed₀ p₀ list tops sum listed p =
+Inv-loop work period deadline priority higher residence memory exclusions co sender receiver loads amounts guide row sizes s sets listing list₀ places count known₀ memo₀ m weights need tops₀ sum₀ listed₀ p₀ list known memo tops sum listed p =
     (p ≤ m) × (length tops ≡ 8) × (sum ≡ sumTo m (λ r. getD tops r 0)) × (length list ≡ length list₀)
     × ((t : Table) → Lends t sizes work period deadline priority higher residence memory exclusions co sender receiver loads amounts → Fits t s → Ledger (tasksIn t) places list₀ count → Choices t s (Bad (tasksIn t) listing list₀ count) sets
-    → Tightening t listing places s weights sets list₀ count tops list listed)
+    → Learnt t guide known₀ memo₀ → Tightening t listing places s weights sets list₀ count tops list listed × Learnt t guide known memo)
 
 abbrev μ-loop : tie.MeasureT-loop
-μ-loop work period deadline priority higher residence memory exclusions co sender receiver loads amounts guide row sizes s sets listing list₀ places count m weights need tops₀ sum₀ listed₀ p₀ list tops sum listed p = m - p
+μ-loop work period deadline priority higher residence memory exclusions co sender receiver loads amounts guide row sizes s sets listing list₀ places count known₀ memo₀ m weights need tops₀ sum₀ listed₀ p₀ list known memo tops sum listed p = m - p
 
 pub weigh-spec : {M : Type 1} → statement M
 weigh-spec =
@@ -34,13 +35,13 @@ weigh-spec =
     (λ c κs. search needs)  -- weights-of-requires
     (λ c κs.
     let z = c .before .before .before .pre in
-    (below-more _ 24 _ (z .0 .1 .rules .sound .tasks .most) (open-below (z .0 .2)), c .before .weights-of .ensures .light))  -- weight-of-requires
+    (below-more _ 24 _ (z .0 .1 .rules .sound .tasks .most) (open-below (z .0 .2)), c .before .weights-of .ensures .0 .light))  -- weight-of-requires
     (λ c κs.
     let w = c .before .before .before in
     let z = w .before .before .pre in
     let l = z .0 .1 .rules in (
       omega (arith, l .processors, l .sound .processors .most),
-      w .weights-of .ensures .light,
+      w .weights-of .ensures .0 .light,
       λ p low. below-more _ 24 _ (l .sound .tasks .most) (eligible-below (z .0 .2) (z .0 .4 p (omega (arith, l .processors)) .eligible)),
     ))  -- tops-of-requires
     (λ c κs.
@@ -52,54 +53,55 @@ weigh-spec =
       c .before .tops-of .ensures .0,
       c .total .ensures,
       refl,
-      λ t l f v o. tightening-start v (tops-start f (l .rules .processors) (l .rules .same-memory) (l .rules .same-loads) (w .weights-of .ensures) (λ p low. o p low .eligible) (c .before .tops-of .ensures)),
+      λ t l f v o k. (tightening-start v (tops-start f (l .rules .processors) (l .rules .same-memory) (l .rules .same-loads) (w .weights-of .ensures .0) (λ p low. o p low .eligible) (c .before .tops-of .ensures)), k),
     ))  -- loop-holds
     (λ c κs.
-    let i = c .before .before .before .before in
+    let i = c .before .before .before .before .before .before in
     let w = i .before .before .before .before .before .before in
     let z = w .before .before .pre in
-    let v = i .loop .inv .4 (z .0 .0) (z .0 .1) (z .0 .2) (z .0 .3) (z .0 .4) in
-    ((z .0 .0, z .0 .1, z .0 .2, v .ledger, (λ p low. z .0 .4 p low .eligible), v .holds), w .weights-of .ensures .light, c .before .before .before .loop-test .taken))  -- tighten-requires
+    let v = i .loop .inv .4 (z .0 .0) (z .0 .1) (z .0 .2) (z .0 .3) (z .0 .4) (z .0 .5) in
+    ((z .0 .0, z .0 .1, z .0 .2, v .0 .ledger, (λ p low. z .0 .4 p low .eligible), v .0 .holds, v .1), w .weights-of .ensures .0 .light, c .before .before .before .before .before .loop-test .taken, w .weights-of .ensures .1))  -- tighten-requires
     (λ c.
-    let i = c .before .before .before .before .before .before in
+    let i = c .before .before .before .before .before .before .before .before in
     let l = i .before .before .before .before .before .before .before .before .before .pre .0 .1 .rules in
     omega (arith, i .loop-test .taken, l .processors, l .sound .processors .most))  -- mul-tops
     (λ c.
-    let i = c .before .before .before .before .before .before in
+    let i = c .before .before .before .before .before .before .before .before in
     let l = i .before .before .before .before .before .before .before .before .before .pre .0 .1 .rules in
     omega (arith, i .loop-test .taken, l .processors, l .sound .processors .most))  -- array-write-tops
     (λ c κs.
     let x = c .before .before in
-    let b = x .before .before .before .before in
+    let b = x .before .before .before .before .before .before in
     let i = b .before in
     let z = i .before .before .before .before .before .before .before .before .pre in
     let l = z .0 .1 .rules in
-    let v = i .loop .inv .4 (z .0 .0) (z .0 .1) (z .0 .2) (z .0 .3) (z .0 .4) in (
+    let v = i .loop .inv .4 (z .0 .0) (z .0 .1) (z .0 .2) (z .0 .3) (z .0 .4) (z .0 .5) in (
       omega (arith, l .processors, l .sound .processors .most),
-      tightening-next v (omega (arith, i .loop .inv .1, b .loop-test .taken, l .processors, l .sound .processors .most)) (x .tighten .result)
-          (x .tighten .ensures (z .0 .0) (z .0 .1) (z .0 .2) (v .ledger) (λ p low. z .0 .4 p low .eligible) (v .holds)) .holds .small,
+      tightening-next (v .0) (omega (arith, i .loop .inv .1, b .loop-test .taken, l .processors, l .sound .processors .most)) (x .tighten .result)
+          (x .tighten .ensures (z .0 .0) (z .0 .1) (z .0 .2) (v .0 .ledger) (λ p low. z .0 .4 p low .eligible) (v .0 .holds) (v .1) .0) .holds .small,
     ))  -- total-requires-2
     (λ c.
-    let i = c .before .before .before .before .before .before .before in
+    let i = c .before .before .before .before .before .before .before .before .before in
     let l = i .before .before .before .before .before .before .before .before .before .pre .0 .1 .rules in
     omega (arith, i .loop-test .taken, l .processors, l .sound .processors .most))  -- add-p
     (λ c. search needs)  -- loop-less
     (λ c.
     let x = c .before .before .before in
-    let b = x .before .before .before .before in
+    let b = x .before .before .before .before .before .before in
     let i = b .before in (
       omega (arith, b .loop-test .taken),
       simp length-set (i .loop .inv .1),
       c .total2 .ensures,
-      x .tighten .kept .1 .1 .1 .1 .1 .1 .1 .1 .1 .1 .1 .1 .1 .1 .1 .1 .1 .1 .1 .1 .1 .0 ∙ i .loop .inv .3,
-      λ t l f w o.
-          let v = i .loop .inv .4 t l f w o in
-          tightening-next v (omega (arith, i .loop .inv .1, b .loop-test .taken, l .rules .processors, l .rules .sound .processors .most)) (x .tighten .result)
-          (x .tighten .ensures t l f (v .ledger) (λ p low. o p low .eligible) (v .holds)),
+      x .tighten .kept .1 .1 .1 .1 .1 .1 .1 .1 .1 .1 .1 .1 .1 .1 .1 .1 .1 .1 .1 .1 .1 .1 .0 ∙ i .loop .inv .3,
+      λ t l f w o k.
+          let v = i .loop .inv .4 t l f w o k in
+          let a = x .tighten .ensures t l f (v .0 .ledger) (λ p low. o p low .eligible) (v .0 .holds) (v .1) in
+          (tightening-next (v .0) (omega (arith, i .loop .inv .1, b .loop-test .taken, l .rules .processors, l .rules .sound .processors .most)) (x .tighten .result) (a .0), a .1),
     ))  -- loop-again
     (λ c. search needs)  -- same-length
     (λ c.
     let i = c .before in
     let x = i .before .before .before .before in
-    λ t l f v o.
-    tightening-end (i .loop .inv .4 t l f v o) (l .rules .sound) f o (rw (← l .rules .processors) (i .loop .inv .2)) (x .weight-of .ensures .1 _ (open-below f))))  -- returns
+    λ t l f v o k.
+    let a = i .loop .inv .4 t l f v o k in
+    (tightening-end (a .0) (l .rules .sound) f o (rw (← l .rules .processors) (i .loop .inv .2)) (x .weight-of .ensures .1 _ (open-below f)), a .1)))  -- returns

@@ -1,18 +1,21 @@
--- At most one is counted for each processor passed.
+-- At most one is counted for each processor passed; the table knows the sets of the tasks throughout.
 use borrow.Author.Needs.{needs}
 use mathlib.Core.Logic.{⊎-elim}
 use Prim.Native.Nat.{_-_, _≤_}
 use native.Mathlib.Omega.{arith}
-use Rattle.branching.proofs.Open.{open-low, limits-with}
+use Rattle.schedule.specs.Arrays.{tasksOf}
+use Rattle.known.specs.Known.{Knows}
+use Rattle.region.proofs.Lending.{lent-tasks, limits-with}
+use Rattle.branching.proofs.Open.{open-low}
 use Rattle.branching.proofs.choices.Statement.{statement}
 use Rattle.branching.proofs.choices.Tie as tie
 
 abbrev Inv-loop : tie.InvT-loop
-Inv-loop work period deadline priority higher residence memory exclusions co sender receiver loads amounts sizes k full list count s found₀ p₀ found p =
-    (p ≤ sizes .processors) × (found ≤ p)
+Inv-loop work period deadline priority higher residence memory exclusions co sender receiver loads amounts sizes k full list count known₀ s found₀ p₀ known found p =
+    (p ≤ sizes .processors) × (found ≤ p) × Knows (tasksOf (sizes .tasks) work period deadline priority) known
 
 abbrev μ-loop : tie.MeasureT-loop
-μ-loop work period deadline priority higher residence memory exclusions co sender receiver loads amounts sizes k full list count s found₀ p₀ found p =
+μ-loop work period deadline priority higher residence memory exclusions co sender receiver loads amounts sizes k full list count known₀ s found₀ p₀ known found p =
     sizes .processors - p
 
 pub choices-spec : {M : Type 1} → statement M
@@ -21,16 +24,20 @@ choices-spec =
     (tie.spec
     Inv-loop
     μ-loop
-    (λ c. search needs)  -- loop-holds
+    (λ c. let z = c .before .pre in (search needs, search needs, rw (lent-tasks (z .0 .1)) (z .0 .3)))  -- loop-holds
     (λ c κs. let z = c .before .before .before .before .pre in ((z .0 .0, z .0 .1 .rules, z .0 .2), z .1, search needs))  -- allows-requires
     (λ c. search needs)  -- mul-insert
     (λ c. search needs)  -- element-copy-out-insert
     (λ c κs. let z = c .before .before .before .before .before .before .before .pre in omega (arith, open-low (z .0 .1) (z .0 .2) _ (z .1)))  -- insert-requires
     (λ c κs.
-    let z = c .before .before .before .before .before .before .before .before .pre in
-    (rw (c .insert .ensures) (limits-with (z .0 .1) (z .0 .2) _ (z .1) _), z .2))  -- passed-over-requires
+    let i = c .before .before .before .before .before .before .before in
+    let z = i .before .before .pre in
+    (rw (c .before .insert .ensures) (limits-with (z .0 .1) (z .0 .2) _ (z .1) _), z .2, i .loop .inv .2))  -- passed-over-requires
     (λ c. search needs)  -- add-found
     (λ c. search needs)  -- add-p
     (λ c. search needs)  -- loop-less
-    (λ c. ⊎-elim (λ w. search needs) (⊎-elim (λ w. search needs) (λ w. search needs)) (c .if2 .came))  -- loop-again
-    (λ c. search needs))  -- returns
+    (λ c. ⊎-elim
+    (λ w. (search needs, search needs, rw (w .6) (w .4 .ensures)))
+    (⊎-elim (λ w. (search needs, search needs, rw (w .6) (w .4 .ensures))) (λ w. (search needs, search needs, rw (w .1) (c .before .before .before .before .loop .inv .2))))
+    (c .if2 .came))  -- loop-again
+    (λ c. (search needs, λ t lent fits knows. rw (← lent-tasks lent) (c .before .before .loop .inv .2))))  -- returns

@@ -1,4 +1,4 @@
--- The best so far is an open task, and so are those still to be looked at.
+-- The best so far is an open task, and so are those still to be looked at; the table knows the sets of the tasks throughout.
 use borrow.Author.Needs.{needs}
 use mathlib.Core.Path.{_≡_, refl, _∙_}
 use mathlib.Core.Logic.{⊎-elim}
@@ -9,16 +9,20 @@ use lib.ListN.{length}
 use Rattle.mask.specs.Mask.{has}
 use Rattle.mask.proofs.Laws.{lowest-is}
 use Rattle.mask.proofs.Visit.{Visit, visit-start, visit-member, visit-less, visit-next}
+use Rattle.schedule.specs.Arrays.{tasksOf}
+use Rattle.known.specs.Known.{Knows}
+use Rattle.region.proofs.Lending.{lent-tasks}
 use Rattle.branching.proofs.Open.{open-low}
 use Rattle.branching.proofs.pick.Statement.{statement}
 use Rattle.branching.proofs.pick.Tie as tie
 
 abbrev Inv-loop : tie.InvT-loop
-Inv-loop work period deadline priority higher residence memory exclusions co sender receiver loads amounts guide sizes s listing list places count notes₀ full best₀ least₀ rest₀ notes best least rest =
-    Visit 32 (s .left) rest (λ k. Unit {0}) × T (has (s .left) best) × (length notes ≡ length notes₀)
+Inv-loop work period deadline priority higher residence memory exclusions co sender receiver loads amounts guide sizes s listing list places count notes₀ known₀ full best₀ least₀ rest₀ notes known best least rest =
+    Visit 32 (s .left) rest (λ k. Unit {0}) × T (has (s .left) best) × (length notes ≡ length notes₀) × Knows (tasksOf (sizes .tasks) work period deadline priority) known
 
 abbrev μ-loop : tie.MeasureT-loop
-μ-loop work period deadline priority higher residence memory exclusions co sender receiver loads amounts guide sizes s listing list places count notes₀ full best₀ least₀ rest₀ notes best least rest = rest
+μ-loop work period deadline priority higher residence memory exclusions co sender receiver loads amounts guide sizes s listing list places count notes₀ known₀ full best₀ least₀ rest₀ notes known best least rest =
+    rest
 
 -- the task that is looked at
 member : (c : tie.After-lowest2 Inv-loop μ-loop) → T (has (c .before .before .before .before .before .before .before .args .s .left) (c .lowest2 .result))
@@ -38,31 +42,45 @@ pick-spec =
     Inv-loop
     μ-loop
     (λ c κs. search needs)  -- lowest-requires
-    (λ c. (visit-start (wide-left c), rw (c .lowest .ensures) (lowest-is 32 _ (c .before .before .before .before .pre .1) (wide-left c) .member), refl))  -- loop-holds
+    (λ c.
+    let z = c .before .before .before .before .pre in
+    (visit-start (wide-left c), rw (c .lowest .ensures) (lowest-is 32 _ (z .1) (wide-left c) .member), refl, rw (lent-tasks (z .0 .1)) (z .0 .3)))  -- loop-holds
     (λ c κs. search needs)  -- lowest-requires-2
-    (λ c κs. let z = c .before .before .before .before .before .before .before .pre in (z .0, member c, z .2))  -- choices-requires
     (λ c κs.
-    let l = c .before .before .before in
+    let l = c .before in
     let i = l .before .before in
-    omega (arith, low l, i .loop .inv .2, i .before .before .before .before .before .pre .3))  -- blame-requires
-    (λ c. search needs)  -- same-length
-    (λ c. member (c .before .before .before .before .before .before))  -- returns
-    (λ c. record { fits = omega (arith, low (c .before .before)) })  -- add-score
-    (λ c. record { fits = omega (arith, low (c .before .before)) })  -- mul-score
-    (λ c. omega (arith, low (c .before .before)))  -- element-copy-out-score
+    let z = i .before .before .before .before .before .pre in
+    ((z .0 .0, z .0 .1, z .0 .2, rw (← lent-tasks (z .0 .1)) (i .loop .inv .3)), member l, z .2))  -- choices-requires
     (λ c κs.
     let l = c .before .before .before .before in
     let i = l .before .before in
-    (c .before .before .before .choices .ensures, low l, omega (arith, i .loop .inv .2, i .before .before .before .before .before .pre .3)))  -- score-requires
-    (λ c κs. omega (arith, low (c .before .before .before .before .before .before .before .before)))  -- remove-requires
+    omega (arith, low l, i .loop .inv .2, i .before .before .before .before .before .pre .3))  -- blame-requires
+    (λ c. search needs)  -- same-length
     (λ c.
-    let l = c .before .before .before .before .before .before .before .before .before in
+    let n = c .before .before .before .before .before in
+    let l = n .before .before in
+    (member l, λ t lent fits knows. n .choices .ensures .1 t lent fits (rw (← lent-tasks lent) (l .before .before .loop .inv .3))))  -- returns
+    (λ c. record { fits = omega (arith, low (c .before .before .before)) })  -- add-score
+    (λ c. record { fits = omega (arith, low (c .before .before .before)) })  -- mul-score
+    (λ c. omega (arith, low (c .before .before .before)))  -- element-copy-out-score
+    (λ c κs.
+    let n = c .before .before .before in
+    let l = n .before .before in
+    let i = l .before .before in
+    (n .choices .ensures .0, low l, omega (arith, i .loop .inv .2, i .before .before .before .before .before .pre .3)))  -- score-requires
+    (λ c κs. omega (arith, low (c .before .before .before .before .before .before .before .before .before)))  -- remove-requires
+    (λ c.
+    let l = c .before .before .before .before .before .before .before .before .before .before in
     visit-less (l .before .before .loop .inv .0) (search needs) (l .lowest2 .ensures) (c .remove .ensures))  -- loop-less
     (λ c.
-    let l = c .before .before .before .before .before .before .before .before .before in (
-      visit-next (l .before .before .loop .inv .0) (search needs) (l .lowest2 .ensures) (c .remove .ensures) tt,
-      ⊎-elim (λ w. rw (w .1) (member l)) (λ w. rw (w .1) (l .before .before .loop .inv .1)) (c .before .if3 .came),
-      c .before .before .before .before .score .kept .1 .1 .1 .0 ∙ l .before .before .loop .inv .2,
+    let n = c .before .before .before .before .before .before .before .before in
+    let l = n .before .before in
+    let i = l .before .before in
+    let z = i .before .before .before .before .before .pre in (
+      visit-next (i .loop .inv .0) (search needs) (l .lowest2 .ensures) (c .remove .ensures) tt,
+      ⊎-elim (λ w. rw (w .1) (member l)) (λ w. rw (w .1) (i .loop .inv .1)) (c .before .if3 .came),
+      c .before .before .before .before .score .kept .1 .1 .1 .0 ∙ i .loop .inv .2,
+      rw (lent-tasks (z .0 .1)) (n .choices .ensures .1 _ (z .0 .1) (z .0 .2) (rw (← lent-tasks (z .0 .1)) (i .loop .inv .3))),
     ))  -- loop-again
     (λ c. search needs)  -- same-length-2
-    (λ c. c .before .loop .inv .1))  -- returns-2
+    (λ c. (c .before .loop .inv .1, λ t lent fits knows. rw (← lent-tasks lent) (c .before .loop .inv .3))))  -- returns-2

@@ -1,4 +1,4 @@
--- The quotient is at most 8 · 2^30, and the noise less than 128.
+-- The quotient is at most 64 · 2^26, and the noise less than 128.
 use Prim.Native.Nat.{ℕ, _+_, _*_, _/_, _≤_, _<_}
 use native.Mathlib.Nat.{mul-le-mul, div-le-self}
 use native.Mathlib.Omega.{arith}
@@ -6,12 +6,15 @@ use borrow.Author.Needs.{needs}
 use Rattle.branching.proofs.score.Statement.{statement}
 use Rattle.branching.proofs.score.Tie as tie
 
-quotient : (a w : ℕ) → a ≤ 8 → a * 1073741824 / w ≤ 8589934592
-quotient a w l = omega (arith, div-le-self (a * 1073741824) w)
+square : (a : ℕ) → a ≤ 8 → a * a ≤ 64
+square a l = mul-le-mul l l
 
-product : (a w x : ℕ) → a ≤ 8 → x < 128 → a * 1073741824 / w / 1024 * x ≤ 8388608 * 128
+quotient : (a w : ℕ) → a ≤ 8 → a * a * 67108864 / w ≤ 4294967296
+quotient a w l = omega (arith, square a l, div-le-self (a * a * 67108864) w)
+
+product : (a w x : ℕ) → a ≤ 8 → x < 128 → a * a * 67108864 / w / 1024 * x ≤ 4194304 * 128
 product a w x l m =
-    let y : a * 1073741824 / w / 1024 ≤ 8388608 = omega (arith, quotient a w l) in
+    let y : a * a * 67108864 / w / 1024 ≤ 4194304 = omega (arith, quotient a w l) in
     let z : x ≤ 128 = omega arith in
     mul-le-mul y z
 
@@ -25,7 +28,8 @@ score-spec =
     (λ c κs. search needs)  -- wide-requires-2
     (λ c. search needs)  -- add-weight
     (λ c. search needs)  -- add-weight-2
-    (λ c. search needs)  -- mul-plain
+    (λ c. record { fits = omega (arith, square _ (c .before .before .before .before .pre .0)) })  -- mul-plain
+    (λ c. record { fits = omega (arith, square _ (c .before .before .before .before .pre .0)) })  -- mul-plain-2
     (λ c. search needs)  -- div-plain
     (λ c κs. search needs)  -- noise-requires
     (λ c.

@@ -12,7 +12,8 @@ attempt-spec =
     (λ c κs. search needs)  -- copy-notes-requires
     (λ c. search needs)  -- slice-aggregate-seek
     (λ c κs.
-    let a = c .before .before .before .before .before .before .before .pre in
-    ((a .0 .0, a .0 .1, ready-begins (search needs) (a .0 .2)), omega (arith, a .1, c .before .before .before .before .copy-notes .kept .0)))  -- seek-requires
+    let x = c .before .before .before .before .before .before in
+    let a = x .before .before .before .pre in
+    ((a .0 .0, a .0 .1, ready-begins (search needs) (a .0 .2), a .0 .3), omega (arith, a .1, x .copy-notes .kept .0)))  -- seek-requires
     (λ c. search needs)  -- same-length
-    (λ c t l w. attempted (c .before .before .before .seek .ensures t l (ready-begins (search needs) w))))  -- returns
+    (λ c t l w k. let x = c .before .before .before .seek .ensures t l (ready-begins (search needs) w) k in (attempted (x .0), x .1)))  -- returns

@@ -1,13 +1,14 @@
+-- The placements with the task on an earlier processor are settled; the good placement at hand says that one takes it.
 use native.Mathlib.Omega.{arith}
 use borrow.Author.Needs.{needs}
 use mathlib.Core.Path.{_≡_, refl, _∙_}
-use Prim.Native.Nat.{_-_, _≤_}
+use Prim.Native.Nat.{ℕ, _-_, _≤_, _<_}
 use lib.ListN.{length}
 use Rattle.table.specs.declared.Table.{Table}
 use Rattle.region.specs.Lends.{Lends}
+use Rattle.memo.specs.Memo.{Learnt}
 use Rattle.first.specs.First.{Placing}
 use Rattle.first.proofs.Placing.{step-taken, placing-next, Passing, passing-start, passing-placing, passing-below, passing-next, taken-good, taken-ledger, first-whole, first-taken, not-missed}
-use Prim.Native.Nat.{ℕ, _<_}
 use borrow.Fn.Kinds.{In}
 use borrow.Fn.PlainCycle.{Measures, is, falls, and}
 use Rattle.first.proofs.first.Reads as first
@@ -18,22 +19,23 @@ use Rattle.first.proofs.try_processor.Reads as try-processor-reads
 use Rattle.first.proofs.+first.{statement}
 use Rattle.first.proofs.+first.Tie.{close}
 
-abbrev μ-first : Measures 3 first-kinds.ps ℕ
+abbrev μ-first : Measures 5 first-kinds.ps ℕ
 μ-first κs a = a .1 .1 .1 .1 .1 .1 .1 .1 .1 .1 .1 .1 .1 .1 .0 .tasks - a .1 .1 .1 .1 .1 .1 .1 .1 .1 .1 .1 .1 .1 .1 .1 .1 .0
 
-abbrev first-at : ℕ → In 3 first-kinds.ps
-first-at t = and 3 first-kinds.ps (is 3 first-kinds.ps μ-first t) first.Pre
+abbrev first-at : ℕ → In 5 first-kinds.ps
+first-at t = and 5 first-kinds.ps (is 5 first-kinds.ps μ-first t) first.Pre
 
-abbrev first-below : ℕ → In 3 first-kinds.ps
-first-below t = and 3 first-kinds.ps (falls 3 first-kinds.ps _<_ μ-first t) first.Pre
+abbrev first-below : ℕ → In 5 first-kinds.ps
+first-below t = and 5 first-kinds.ps (falls 5 first-kinds.ps _<_ μ-first t) first.Pre
 
 abbrev first-Inv-loop : first-lts.InvT-loop
-first-Inv-loop work period deadline priority higher residence memory exclusions co sender receiver loads amounts guide sizes s k witness list₀ places count cut notes₀ on at₀ marked₀ p₀ list notes at marked p =
+first-Inv-loop work period deadline priority higher residence memory exclusions co sender receiver loads amounts guide sizes s k witness list₀ places count cut notes₀ known₀ memo₀ on at₀ marked₀ p₀ list notes known memo at marked p =
     (p ≤ sizes .processors) × (length list ≡ length list₀) × (length notes ≡ length notes₀)
-    × ((t : Table) → Lends t sizes work period deadline priority higher residence memory exclusions co sender receiver loads amounts → Placing t places s k witness list₀ count → Passing t places s k witness list₀ count cut p list at marked)
+    × ((t : Table) → Lends t sizes work period deadline priority higher residence memory exclusions co sender receiver loads amounts → Placing t places s k witness list₀ count → Learnt t guide known₀ memo₀
+    → Passing t places s k witness list₀ count cut p list at marked × Learnt t guide known memo)
 
 abbrev first-μ-loop : first-lts.MeasureT-loop
-first-μ-loop work period deadline priority higher residence memory exclusions co sender receiver loads amounts guide sizes s k witness list₀ places count cut notes₀ on at₀ marked₀ p₀ list notes at marked p =
+first-μ-loop work period deadline priority higher residence memory exclusions co sender receiver loads amounts guide sizes s k witness list₀ places count cut notes₀ known₀ memo₀ on at₀ marked₀ p₀ list notes known memo at marked p =
     sizes .processors - p
 
 pub +first-spec : {M : Type 1} → statement M
@@ -49,60 +51,61 @@ pub +first-spec : {M : Type 1} → statement M
     first.Post
     first-Inv-loop
     first-μ-loop
-    (λ c u l w. first-whole w (l .rules .sound) (omega (arith, l .rules .tasks, c .if1 .taken)) (c .before .before .before .before .before .args .cut))  -- returns
-    (λ c. (omega arith, refl, refl, λ u l w. passing-start w (c .before .before .before .before .before .args .cut)))  -- loop-holds
+    (λ c u l w k. (first-whole w (l .rules .sound) (omega (arith, l .rules .tasks, c .if1 .taken)) (c .before .before .before .before .before .args .cut), k))  -- returns
+    (λ c. (omega arith, refl, refl, λ u l w k. (passing-start w (c .before .before .before .before .before .args .cut), k)))  -- loop-holds
     (λ c κs.
-    let i = c .before .before .before .before in
+    let i = c .before .before .before .before .before .before in
     let a = i .before .before .before .before .before .before .pre .1 in
     let b = a .0 in
-    let v = i .loop .inv .3 (b .0) (b .1) (b .2) in
-    ((b .0, b .1, passing-placing (b .2) v, passing-below (b .2) v), omega (arith, b .2 .upto, b .1 .rules .tasks, i .before .if1 .left), c .before .before .if2 .taken, omega (arith, a .1, i .loop .inv .2)))  -- try-processor-requires
+    let v = i .loop .inv .3 (b .0) (b .1) (b .2) (b .3) in
+    ((b .0, b .1, passing-placing (b .2) (v .0), passing-below (b .2) (v .0), v .1), omega (arith, b .2 .upto, b .1 .rules .tasks, i .before .if1 .left), c .before .before .before .before .if2 .taken, omega (arith, a .1, i .loop .inv .2)))  -- try-processor-requires
     (λ c κs.
-    let i = c .before .before .before .before .before .before .before .before .before .before in
+    let i = c .before .before .before .before .before .before .before .before .before .before .before .before in
     let a = i .before .before .before .before .before .before .pre .1 .0 in
-    ((a .0, a .1 .rules, a .2 .fits), a .2 .open-from _ (omega arith) (omega (arith, a .2 .upto, a .1 .rules .tasks, i .before .if1 .left)), c .before .before .before .before .before .before .before .before .if2 .taken))  -- step-requires
-    (λ c. let a = c .before .before .before .before .before .before .before .before .before .before .before .before .before .before .before .before .before .before .before .pre .1 .0 in omega (arith, a .2 .upto, a .1 .rules .sound .tasks .most))  -- add-first
+    ((a .0, a .1 .rules, a .2 .fits), a .2 .open-from _ (omega arith) (omega (arith, a .2 .upto, a .1 .rules .tasks, i .before .if1 .left)), c .before .before .before .before .before .before .before .before .before .before .if2 .taken))  -- step-requires
+    (λ c. let a = c .before .before .before .before .before .before .before .before .before .before .before .before .before .before .before .before .before .before .before .before .before .pre .1 .0 in omega (arith, a .2 .upto, a .1 .rules .sound .tasks .most))  -- add-first
     (λ c κs.
-    let x = c .before .before .before .before .before .before .before .before .before .before in
-    let i = x .before .before .before .before .before in
+    let x = c .before .before .before .before .before .before .before .before .before .before .before .before in
+    let i = x .before .before .before .before .before .before .before in
     let a = i .before .before .before .before .before .before .pre in
     let u = a .1 .0 .0 in
     let l = a .1 .0 .1 in
     let w = a .1 .0 .2 in
-    let v = i .loop .inv .3 u l w in
-    let y = x .try-processor .ensures u l (passing-placing w v) (passing-below w v) in
-    let e = c .before .before .before .before .before .if3 .taken in
+    let v = i .loop .inv .3 u l w (a .1 .0 .3) in
+    let y = x .try-processor .ensures u l (passing-placing w (v .0)) (passing-below w (v .0)) (v .1) in
+    let e = c .before .before .before .before .before .before .before .if3 .taken in
     let below : i .before .before .before .before .before .before .args .k < u .tasks .count = omega (arith, w .upto, l .rules .tasks, i .before .if1 .left) in
-    let good = taken-good w v _ (x .try-processor .result) y e in
-    let step = step-taken (l .rules .sound) w (i .loop .p) good (c .before .before .before .before .step .result .allowed) (c .before .before .before .before .step .ensures u (l .rules) (w .fits)) in
-    (omega (arith, a .0, below, l .rules .tasks), ((u, l, placing-next (l .rules .sound) w below (taken-ledger w v _ (x .try-processor .result) y e) good step), omega (arith, a .1 .1, i .loop .inv .2, x .try-processor .kept .1 .1 .1 .1 .1 .1 .1 .1 .1 .1 .1 .1 .1 .1 .1 .1 .1 .1 .1 .1 .1 .1 .1 .0))))  -- first-requires
-    (λ c. c .before .before .before .before .first .kept .1 .1 .1 .1 .1 .1 .1 .1 .1 .1 .1 .1 .1 .1 .1 .1 .1 .1 .0 ∙ c .before .before .before .before .before .before .before .before .before .before .before .before .before .before .before .try-processor .kept .1 .1 .1 .1 .1 .1 .1 .1 .1 .1 .1 .1 .1 .1 .1 .1 .1 .1 .1 .0 ∙ c .before .before .before .before .before .before .before .before .before .before .before .before .before .before .before .before .before .before .before .before .loop .inv .1)  -- same-length
-    (λ c. c .before .before .before .before .first .kept .1 .1 .1 .1 .1 .1 .1 .1 .1 .1 .1 .1 .1 .1 .1 .1 .1 .1 .1 .1 .1 .1 .0 ∙ c .before .before .before .before .before .before .before .before .before .before .before .before .before .before .before .try-processor .kept .1 .1 .1 .1 .1 .1 .1 .1 .1 .1 .1 .1 .1 .1 .1 .1 .1 .1 .1 .1 .1 .1 .1 .0 ∙ c .before .before .before .before .before .before .before .before .before .before .before .before .before .before .before .before .before .before .before .before .loop .inv .2)  -- same-length-2
-    (λ c u l w.
+    let good = taken-good w (v .0) _ (x .try-processor .result) (y .0) e in
+    let step = step-taken (l .rules .sound) w (i .loop .p) good (c .before .before .before .before .before .before .step .result .allowed) (c .before .before .before .before .before .before .step .ensures u (l .rules) (w .fits)) in
+    (omega (arith, a .0, below, l .rules .tasks), ((u, l, placing-next (l .rules .sound) w below (taken-ledger w (v .0) _ (x .try-processor .result) (y .0) e) good step, y .1), omega (arith, a .1 .1, i .loop .inv .2, x .try-processor .kept .1 .1 .1 .1 .1 .1 .1 .1 .1 .1 .1 .1 .1 .1 .1 .1 .1 .1 .1 .1 .1 .1 .1 .0))))  -- first-requires
+    (λ c. c .before .before .before .before .first .kept .1 .1 .1 .1 .1 .1 .1 .1 .1 .1 .1 .1 .1 .1 .1 .1 .1 .1 .0 ∙ c .before .before .before .before .before .before .before .before .before .before .before .before .before .before .before .before .before .try-processor .kept .1 .1 .1 .1 .1 .1 .1 .1 .1 .1 .1 .1 .1 .1 .1 .1 .1 .1 .1 .0 ∙ c .before .before .before .before .before .before .before .before .before .before .before .before .before .before .before .before .before .before .before .before .before .before .before .before .loop .inv .1)  -- same-length
+    (λ c. c .before .before .before .before .first .kept .1 .1 .1 .1 .1 .1 .1 .1 .1 .1 .1 .1 .1 .1 .1 .1 .1 .1 .1 .1 .1 .1 .0 ∙ c .before .before .before .before .before .before .before .before .before .before .before .before .before .before .before .before .before .try-processor .kept .1 .1 .1 .1 .1 .1 .1 .1 .1 .1 .1 .1 .1 .1 .1 .1 .1 .1 .1 .1 .1 .1 .1 .0 ∙ c .before .before .before .before .before .before .before .before .before .before .before .before .before .before .before .before .before .before .before .before .before .before .before .before .loop .inv .2)  -- same-length-2
+    (λ c u l w k.
     let f = c .before .before .before .before in
-    let x = f .before .before .before .before .before .before .before .before .before .before .before in
-    let i = x .before .before .before .before .before in
-    let v = i .loop .inv .3 u l w in
-    let y = x .try-processor .ensures u l (passing-placing w v) (passing-below w v) in
-    let e = f .before .before .before .before .before .before .if3 .taken in
+    let x = f .before .before .before .before .before .before .before .before .before .before .before .before .before in
+    let i = x .before .before .before .before .before .before .before in
+    let v = i .loop .inv .3 u l w k in
+    let y = x .try-processor .ensures u l (passing-placing w (v .0)) (passing-below w (v .0)) (v .1) in
+    let e = f .before .before .before .before .before .before .before .before .if3 .taken in
     let below : i .before .before .before .before .before .before .args .k < u .tasks .count = omega (arith, w .upto, l .rules .tasks, i .before .if1 .left) in
-    let good = taken-good w v _ (x .try-processor .result) y e in
-    let step = step-taken (l .rules .sound) w (i .loop .p) good (f .before .before .before .before .before .step .result .allowed) (f .before .before .before .before .before .step .ensures u (l .rules) (w .fits)) in
-    first-taken w v _ (x .try-processor .result) y e below step (f .first .result)
-    (f .first .ensures u l (placing-next (l .rules .sound) w below (taken-ledger w v _ (x .try-processor .result) y e) good step)))  -- returns-2
+    let good = taken-good w (v .0) _ (x .try-processor .result) (y .0) e in
+    let step = step-taken (l .rules .sound) w (i .loop .p) good (f .before .before .before .before .before .before .before .step .result .allowed) (f .before .before .before .before .before .before .before .step .ensures u (l .rules) (w .fits)) in
+    let z = f .first .ensures u l (placing-next (l .rules .sound) w below (taken-ledger w (v .0) _ (x .try-processor .result) (y .0) e) good step) (y .1) in
+    (first-taken w (v .0) _ (x .try-processor .result) (y .0) e below step (f .first .result) (z .0), z .1))  -- returns-2
     (λ c. search needs)  -- add-p
     (λ c. omega arith)  -- loop-less
     (λ c.
     let x = c .before .before .before .before .before in
-    let i = x .before .before .before .before .before in (
+    let i = x .before .before .before .before .before .before .before in (
       omega arith,
       x .try-processor .kept .1 .1 .1 .1 .1 .1 .1 .1 .1 .1 .1 .1 .1 .1 .1 .1 .1 .1 .1 .0 ∙ i .loop .inv .1,
       x .try-processor .kept .1 .1 .1 .1 .1 .1 .1 .1 .1 .1 .1 .1 .1 .1 .1 .1 .1 .1 .1 .1 .1 .1 .1 .0 ∙ i .loop .inv .2,
-      λ u l w. let v = i .loop .inv .3 u l w in
-          passing-next w v _ (x .try-processor .result) (x .try-processor .ensures u l (passing-placing w v) (passing-below w v)) (omega (arith, w .upto, l .rules .tasks, i .before .if1 .left)) (c .if3 .left),
+      λ u l w k. let v = i .loop .inv .3 u l w k in
+          let y = x .try-processor .ensures u l (passing-placing w (v .0)) (passing-below w (v .0)) (v .1) in
+          (passing-next w (v .0) _ (x .try-processor .result) (y .0) (omega (arith, w .upto, l .rules .tasks, i .before .if1 .left)) (c .if3 .left), y .1),
     ))  -- loop-again
     (λ c. search needs)  -- same-length-3
     (λ c. search needs)  -- same-length-4
-    (λ c u l w.
+    (λ c u l w k.
     let i = c .before .before in
-    absurd (not-missed w (i .loop .inv .3 u l w) (omega (arith, w .upto, l .rules .tasks, i .before .if1 .left)) (omega (arith, l .rules .processors, c .if2 .left))))  -- returns-3
+    absurd (not-missed w (i .loop .inv .3 u l w k .0) (omega (arith, w .upto, l .rules .tasks, i .before .if1 .left)) (omega (arith, l .rules .processors, c .if2 .left))))  -- returns-3

@@ -1,29 +1,31 @@
+-- The task's region is entered, which lists a conflict where it is closed; otherwise its conflicts are listed.
 use borrow.Author.Needs.{needs}
 use borrow.Author.Tests.{not-true, not-false}
 use Rattle.first.proofs.Entering.{covering-closed, entered-begins, covering-open}
 use Rattle.first.proofs.pass_over.Statement.{statement}
 use Rattle.first.proofs.pass_over.Tie as tie
-use Rattle.first.proofs.pass_over.Reads as reads
-use Rattle.first.proofs.pass_over.Lts as lts
-use Rattle.deciding.proofs.cover.Reads as cover-reads
-use Rattle.seek.proofs.enter.Reads as enter-reads
 
 pub pass-over-spec : {M : Type 1} → statement M
 pass-over-spec =
     tie.close
     (tie.spec
-    (λ c κs. search needs)  -- enter-requires
+    (λ c κs. let a = c .before .before .before .before .pre in ((a .0 .0, a .0 .1, a .0 .2, a .0 .3 .knows), a .1, a .2))  -- enter-requires
     (λ c. search needs)  -- same-length
-    (λ c t l b. let e = c .before .before .before .before .before in covering-closed (e .enter .result) (e .enter .ensures t l b) (not-true (e .enter .result .passes) (c .if1 .taken)))  -- returns
+    (λ c t l b k.
+    let e = c .before .before .before .before .before in
+    let x = e .enter .ensures t l b (k .knows) in
+    (covering-closed (e .enter .result) (x .0) (not-true (e .enter .result .passes) (c .if1 .taken)), record { knows = x .1; keeps = k .keeps }))  -- returns
     (λ c κs.
-    let e = c .before .before .before .before .before .before .before in
-    let a = e .before .before .before .before .pre in
-    ((a .0 .0, a .0 .1, entered-begins (e .enter .result) (e .enter .ensures (a .0 .0) (a .0 .1) (a .0 .2)) (not-false (e .enter .result .passes) (c .before .before .if1 .left))), a .3))  -- cover-requires
+    let e = c .before .before .before .before .before .before .before .before .before in
+    let a = e .before .before .before .before .before .pre in
+    let x = e .enter .ensures (a .0 .0) (a .0 .1) (a .0 .2) (a .0 .3 .knows) in
+    ((a .0 .0, a .0 .1, entered-begins (e .enter .result) (x .0) (not-false (e .enter .result .passes) (c .before .before .before .before .if1 .left)), record { knows = x .1; keeps = a .0 .3 .keeps }), a .3))  -- cover-requires
     (λ c. search needs)  -- same-length-2
     (λ c. search needs)  -- same-length-3
-    (λ c t l b.
+    (λ c t l b k.
     let d = c .before .before .before .before in
-    let e = d .before .before .before .before .before .before .before .before in
-    let x = e .enter .ensures t l b in
-    let f = not-false (e .enter .result .passes) (d .before .before .before .if1 .left) in
-    covering-open (e .enter .result) x f (d .cover .result) (d .cover .ensures t l (entered-begins (e .enter .result) x f))))  -- returns-2
+    let e = d .before .before .before .before .before .before .before .before .before .before in
+    let x = e .enter .ensures t l b (k .knows) in
+    let f = not-false (e .enter .result .passes) (d .before .before .before .before .before .if1 .left) in
+    let y = d .cover .ensures t l (entered-begins (e .enter .result) (x .0) f) (record { knows = x .1; keeps = k .keeps }) in
+    (covering-open (e .enter .result) (x .0) f (d .cover .result) (y .0), y .1)))  -- returns-2

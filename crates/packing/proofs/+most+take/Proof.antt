@@ -11,12 +11,14 @@ use borrow.Fn.PlainCycle.{Measures, is, falls, and}
 use lib.Dec.{T}
 use lib.ListN.{length}
 use Rattle.schedule.specs.Arrays.{tasksOf}
+use Rattle.known.specs.Known.{Knows}
 use Rattle.ledger.proofs.test.Reads as test-reads
+use Rattle.mask.proofs.Laws.{insert-below}
 use Rattle.mask.proofs.has.Reads as has-reads
 use Rattle.mask.proofs.insert.Reads as insert-reads
 use Rattle.mask.proofs.remove.Reads as remove-reads
 use Rattle.packing.proofs.Taking.{room-memory, room-load}
-use Rattle.packing.proofs.Packing.{limits-set, insert-below, taken-refused, taken-bad, taken-packs, taken-on, Packing, packing-start, packing-packs, packing-task, packing-reach, packing-next, packing-end}
+use Rattle.packing.proofs.Packing.{limits-set, taken-refused, taken-bad, taken-packs, taken-on, Packing, packing-start, packing-packs, packing-task, packing-reach, packing-next, packing-end}
 use Rattle.packing.proofs.most.Reads as most
 use Rattle.packing.proofs.most.Kinds as most-kinds
 use Rattle.packing.proofs.+most+take.Lts-most as most-lts
@@ -28,31 +30,32 @@ use Rattle.packing.proofs.wide.Reads as wide-reads
 use Rattle.packing.proofs.+most+take.{statement}
 use Rattle.packing.proofs.+most+take.Tie.{close}
 
-abbrev μ-most : Measures 2 most-kinds.ps ℕ
+abbrev μ-most : Measures 3 most-kinds.ps ℕ
 μ-most κs a = 2 * (24 - a .1 .1 .1 .1 .1 .1 .1 .1 .1 .1 .1 .1 .0) + 1
 
-abbrev μ-take : Measures 2 take-kinds.ps ℕ
+abbrev μ-take : Measures 3 take-kinds.ps ℕ
 μ-take κs a = 2 * (24 - a .1 .1 .1 .1 .1 .1 .1 .1 .1 .1 .1 .1 .1 .0) + 2
 
-abbrev most-at : ℕ → In 2 most-kinds.ps
-most-at t = and 2 most-kinds.ps (is 2 most-kinds.ps μ-most t) most.Pre
+abbrev most-at : ℕ → In 3 most-kinds.ps
+most-at t = and 3 most-kinds.ps (is 3 most-kinds.ps μ-most t) most.Pre
 
-abbrev most-below : ℕ → In 2 most-kinds.ps
-most-below t = and 2 most-kinds.ps (falls 2 most-kinds.ps _<_ μ-most t) most.Pre
+abbrev most-below : ℕ → In 3 most-kinds.ps
+most-below t = and 3 most-kinds.ps (falls 3 most-kinds.ps _<_ μ-most t) most.Pre
 
-abbrev take-at : ℕ → In 2 take-kinds.ps
-take-at t = and 2 take-kinds.ps (is 2 take-kinds.ps μ-take t) take.Pre
+abbrev take-at : ℕ → In 3 take-kinds.ps
+take-at t = and 3 take-kinds.ps (is 3 take-kinds.ps μ-take t) take.Pre
 
-abbrev take-below : ℕ → In 2 take-kinds.ps
-take-below t = and 2 take-kinds.ps (falls 2 take-kinds.ps _<_ μ-take t) take.Pre
+abbrev take-below : ℕ → In 3 take-kinds.ps
+take-below t = and 3 take-kinds.ps (falls 3 take-kinds.ps _<_ μ-take t) take.Pre
 
 abbrev most-Inv-loop : most-lts.InvT-loop
-most-Inv-loop work period deadline priority higher memory exclusions loads weights guide n on at candidates space spare weight reach stop best listing list₀ places count next₀ left₀ all₀ top₀ listed₀ list next left all top listed =
+most-Inv-loop work period deadline priority higher memory exclusions loads weights guide n on at candidates space spare weight reach stop best listing list₀ places count known₀ next₀ left₀ all₀ top₀ listed₀ list known next left all top listed =
     (next₀ ≤ next) × (length list ≡ length list₀)
     × Packing n (tasksOf n work period deadline priority) listing places memory exclusions loads weights on candidates space spare weight stop best list₀ count left all top list listed
+    × Knows (tasksOf n work period deadline priority) known
 
 abbrev most-μ-loop : most-lts.MeasureT-loop
-most-μ-loop work period deadline priority higher memory exclusions loads weights guide n on at candidates space spare weight reach stop best listing list₀ places count next₀ left₀ all₀ top₀ listed₀ list next left all top listed =
+most-μ-loop work period deadline priority higher memory exclusions loads weights guide n on at candidates space spare weight reach stop best listing list₀ places count known₀ next₀ left₀ all₀ top₀ listed₀ list known next left all top listed =
     24 - next
 
 -- a test that passed
@@ -77,6 +80,7 @@ pub +most+take-spec : {M : Type 1} → statement M
       omega arith,
       refl,
       packing-start (z .pre .1 .0) (z .pre .1 .1) (⊎-elim (λ w. omega arith) (λ w. omega arith) (c .if1 .came)),
+      z .pre .1 .2,
     ))  -- loop-holds
     (λ c. search needs)  -- add-k
     (λ c. search needs)  -- mul-k
@@ -86,42 +90,49 @@ pub +most+take-spec : {M : Type 1} → statement M
     (λ c κs. search needs)  -- has-requires
     (λ c κs. search needs)  -- remove-requires
     (λ c κs.
-    let h = c .before .before .before in
+    let r = c .before .before in
+    let h = r .before .before in
     let i = h .before .before .before .before .before in
     let z = i .before .before .before in
     let v = i .loop .inv .2 in
-    let u = passed (h .has .ensures) (c .before .before .if4 .taken) in
+    let u = passed (h .has .ensures) (r .before .if4 .taken) in
     let p = z .pre .1 .0 in
-    rw (c .before .remove .ensures) (omega (arith, z .pre .0, i .loop .inv .0, h .before .before .before .before .loop-test .taken), (packing-packs p v _, packing-task p v _ u, packing-reach p v _ u)))  -- take-requires
+    rw (r .remove .ensures) (omega (arith, z .pre .0, i .loop .inv .0, h .before .before .before .before .loop-test .taken), (packing-packs p v _, packing-task p v _ u, packing-reach p v _ u, i .loop .inv .3)))  -- take-requires
     (λ c. search needs)  -- mul-all
-    (λ c. search needs)  -- element-copy-out-all
     (λ c.
     let r = c .before .before .before .before .before in
     let h = r .before .before in
     let i = h .before .before .before .before .before in
+    let p = i .before .before .before .pre .1 .0 in
+    omega (arith, p .limits .few, packing-task p (i .loop .inv .2) _ (passed (h .has .ensures) (r .before .if4 .taken))))  -- element-copy-out-all
+    (λ c.
+    let r = c .before .before .before .before .before .before in
+    let h = r .before .before in
+    let i = h .before .before .before .before .before in
     omega (arith, packing-reach (i .before .before .before .pre .1 .0) (i .loop .inv .2) _ (passed (h .has .ensures) (r .before .if4 .taken))))  -- sub-all
-    (λ c. omega (arith, c .before .before .before .before .before .before .before .before .before .before .before .loop-test .taken))  -- loop-less
+    (λ c. omega (arith, c .before .before .before .before .before .before .before .before .before .before .before .before .loop-test .taken))  -- loop-less
     (λ c.
     let x = c .before .before .before in
-    let r = x .before .before in
+    let r = x .before .before .before in
     let h = r .before .before in
     let i = h .before .before .before .before .before in
     let u = passed (h .has .ensures) (r .before .if4 .taken) in
-    let a = rw (r .remove .ensures) at (x .take .ensures) in (
+    let a = rw (r .remove .ensures) at (x .take .ensures .0) in (
       omega (arith, i .loop .inv .0),
       x .take .kept .1 .1 .1 .1 .1 .1 .1 .1 .1 .1 .1 .1 .1 .1 .1 .1 .1 .1 .1 .1 .1 .1 .0 ∙ i .loop .inv .1,
       rw (r .remove .ensures) (packing-next (i .before .before .before .pre .1 .0) (i .loop .inv .2) _ u (x .take .result) a),
+      x .take .ensures .1,
     ))  -- loop-again
     (λ c. omega (arith, c .before .before .before .before .before .loop-test .taken))  -- loop-less-2
-    (λ c. let i = c .before .before .before .before .before .before in (omega (arith, i .loop .inv .0), i .loop .inv .1, i .loop .inv .2))  -- loop-again-2
+    (λ c. let i = c .before .before .before .before .before .before in (omega (arith, i .loop .inv .0), i .loop .inv .1, i .loop .inv .2, i .loop .inv .3))  -- loop-again-2
     (λ c. search needs)  -- same-length
     (λ c.
     let i = c .before .before .before in
-    packing-end (i .before .before .before .pre .1 .0) (i .loop .inv .2) _ (omega (arith, ltb-true (i .loop .top) (i .loop .all) (c .if6 .taken))) (inr (omega arith)))  -- returns
+    (packing-end (i .before .before .before .pre .1 .0) (i .loop .inv .2) _ (omega (arith, ltb-true (i .loop .top) (i .loop .all) (c .if6 .taken))) (inr (omega arith)), i .loop .inv .3))  -- returns
     (λ c. search needs)  -- same-length-2
     (λ c.
     let i = c .before .before in
-    packing-end (i .before .before .before .pre .1 .0) (i .loop .inv .2) _ (omega arith) (⊎-elim (λ w. inr (ltb-false (i .loop .top) (i .loop .all) (w .1 .left))) (λ w. inl (w .left)) (c .if5 .came))))  -- returns-2
+    (packing-end (i .before .before .before .pre .1 .0) (i .loop .inv .2) _ (omega arith) (⊎-elim (λ w. inr (ltb-false (i .loop .top) (i .loop .all) (w .1 .left))) (λ w. inl (w .left)) (c .if5 .came)), i .loop .inv .3)))  -- returns-2
     λ t. take-lts.spec (
       room-reads.Asked,
       room-reads.Learnt,
@@ -137,46 +148,47 @@ pub +most+take-spec : {M : Type 1} → statement M
     (take-at t)
     take.Post
     (λ c κs. let p = c .before .pre .1 in omega (arith, p .1, p .0 .limits .few))  -- room-requires
-    (λ c. let r = c .before in let p = r .before .before .pre .1 in taken-refused (p .0) (p .1) (sym (r .room .ensures) ∙ not-true (r .room .result) (c .if1 .taken)))  -- returns
+    (λ c. let r = c .before in let p = r .before .before .pre .1 in (taken-refused (p .0) (p .1) (sym (r .room .ensures) ∙ not-true (r .room .result) (c .if1 .taken)), p .3))  -- returns
     (λ c κs. let p = c .before .before .before .pre .1 in omega (arith, p .1, p .0 .limits .few))  -- insert-requires
     (λ c κs.
-    let p = c .before .before .before .before .before .pre .1 in
-    rw (c .before .insert .ensures) (limits-set (p .0 .limits) (insert-below _ _ _ (p .0 .limits .inside) (p .1)), p .0 .ledger))  -- test-requires
+    let j = c .before .before in
+    let p = j .before .before .before .before .pre .1 in
+    rw (j .insert .ensures) (limits-set (p .0 .limits) (insert-below _ _ _ (p .0 .limits .inside) (p .1)), p .0 .ledger, p .3))  -- test-requires
     (λ c. search needs)  -- same-length
     (λ c.
     let x = c .before .before .before in
-    let j = x .before .before in
+    let j = x .before .before .before in
     let p = j .before .before .before .before .pre .1 in
-    taken-bad (p .0) (p .1) (x .test .result) (rw (j .insert .ensures) at (x .test .ensures)) (c .if2 .taken))  -- returns-2
-    (λ c. let p = c .before .before .before .before .before .before .before .before .before .pre .1 in omega (arith, p .1, p .0 .limits .few))  -- mul-wide
-    (λ c. let p = c .before .before .before .before .before .before .before .before .before .pre .1 in omega (arith, p .1, p .0 .limits .few))  -- element-copy-out-wide
+    (taken-bad (p .0) (p .1) (x .test .result) (rw (j .insert .ensures) at (x .test .ensures .0)) (c .if2 .taken), x .test .ensures .1))  -- returns-2
+    (λ c. let p = c .before .before .before .before .before .before .before .before .before .before .pre .1 in omega (arith, p .1, p .0 .limits .few))  -- mul-wide
+    (λ c. let p = c .before .before .before .before .before .before .before .before .before .before .pre .1 in omega (arith, p .1, p .0 .limits .few))  -- element-copy-out-wide
     (λ c κs. search needs)  -- wide-requires
-    (λ c.
-    let e = c .before .before .before .before .before .before .before .before in
-    let a = e .before .before .before .args in
-    omega (arith, c .wide .ensures .0, room-memory (a .memory .now) (a .exclusions .now) (a .loads .now) (a .on) (a .space) (a .spare) (a .k) (e .before .room .ensures) (not-false (e .before .room .result) (e .if1 .left))))  -- sub-most
-    (λ c. let p = c .before .before .before .before .before .before .before .before .before .before .before .pre .1 in omega (arith, p .1, p .0 .limits .few))  -- mul-most
-    (λ c. let p = c .before .before .before .before .before .before .before .before .before .before .before .pre .1 in omega (arith, p .1, p .0 .limits .few))  -- element-copy-out-most
     (λ c.
     let e = c .before .before .before .before .before .before .before .before .before in
     let a = e .before .before .before .args in
+    omega (arith, c .wide .ensures .0, room-memory (a .memory .now) (a .exclusions .now) (a .loads .now) (a .on) (a .space) (a .spare) (a .k) (e .before .room .ensures) (not-false (e .before .room .result) (e .if1 .left))))  -- sub-most
+    (λ c. let p = c .before .before .before .before .before .before .before .before .before .before .before .before .pre .1 in omega (arith, p .1, p .0 .limits .few))  -- mul-most
+    (λ c. let p = c .before .before .before .before .before .before .before .before .before .before .before .before .pre .1 in omega (arith, p .1, p .0 .limits .few))  -- element-copy-out-most
+    (λ c.
+    let e = c .before .before .before .before .before .before .before .before .before .before in
+    let a = e .before .before .before .args in
     room-load (a .memory .now) (a .exclusions .now) (a .loads .now) (a .on) (a .space) (a .spare) (a .k) (e .before .room .ensures) (not-false (e .before .room .result) (e .if1 .left)))  -- sub-most-2
-    (λ c. let p = c .before .before .before .before .before .before .before .before .before .before .before .before .pre .1 in omega (arith, p .1, p .0 .limits .few))  -- mul-most-2
-    (λ c. let p = c .before .before .before .before .before .before .before .before .before .before .before .before .pre .1 in omega (arith, p .1, p .0 .limits .few))  -- element-copy-out-most-2
-    (λ c. let z = c .before .before .before .before .before .before .before .before .before .before .before .before .before in omega (arith, z .pre .1 .2, z .fits .reach))  -- add-most
+    (λ c. let p = c .before .before .before .before .before .before .before .before .before .before .before .before .before .pre .1 in omega (arith, p .1, p .0 .limits .few))  -- mul-most-2
+    (λ c. let p = c .before .before .before .before .before .before .before .before .before .before .before .before .before .pre .1 in omega (arith, p .1, p .0 .limits .few))  -- element-copy-out-most-2
+    (λ c. let z = c .before .before .before .before .before .before .before .before .before .before .before .before .before .before in omega (arith, z .pre .1 .2, z .fits .reach))  -- add-most
     (λ c κs.
-    let v = c .before .before .before in
+    let v = c .before .before .before .before in
     let x = v .before .before .before .before .before in
-    let j = x .before .before in
+    let j = x .before .before .before in
     let z = j .before .before .before .before in
     let p = z .pre .1 in
-    (omega (arith, z .pre .0), rw (j .insert .ensures) (taken-packs (p .0) (p .1) (x .test .result) (rw (j .insert .ensures) at (x .test .ensures)), p .2)))  -- most-requires
+    (omega (arith, z .pre .0), rw (j .insert .ensures) (taken-packs (p .0) (p .1) (x .test .result) (rw (j .insert .ensures) at (x .test .ensures .0)), p .2, x .test .ensures .1)))  -- most-requires
     (λ c. search needs)  -- same-length-2
     (λ c.
     let y = c .before .before in
-    let v = y .before .before .before .before in
+    let v = y .before .before .before .before .before in
     let x = v .before .before .before .before .before in
-    let j = x .before .before in
+    let j = x .before .before .before in
     let z = j .before .before .before .before in
     let p = z .pre .1 in
-    taken-on (p .0) (p .1) (x .test .result) (rw (j .insert .ensures) at (x .test .ensures)) (y .most .result) (rw (j .insert .ensures, v .wide .ensures .0) at (y .most .ensures)))  -- returns-3
+    (taken-on (p .0) (p .1) (x .test .result) (rw (j .insert .ensures) at (x .test .ensures .0)) (y .most .result) (rw (j .insert .ensures, v .wide .ensures .0) at (y .most .ensures .0)), y .most .ensures .1))  -- returns-3

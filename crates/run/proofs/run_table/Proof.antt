@@ -1,19 +1,11 @@
+-- The columns of the table are what the search asks to be lent, and arrays of zeros are learnt.
 use native.Mathlib.Omega.{arith}
-use Rattle.run.proofs.Running.{lends-table}
-use Rattle.run.proofs.Guiding.{guide-limits}
 use borrow.Author.Needs.{needs}
+use Rattle.known.proofs.Laws.{knows-start}
+use Rattle.memo.proofs.Laws.{learnt-start}
+use Rattle.run.proofs.Running.{lends-table, guide-limits}
 use Rattle.run.proofs.run_table.Statement.{statement}
 use Rattle.run.proofs.run_table.Tie as tie
-use Rattle.run.proofs.run_table.Reads as reads
-use Rattle.run.proofs.run_table.Lts as lts
-use Rattle.columns.proofs.amounts_of.Reads as amounts-of-reads
-use Rattle.columns.proofs.exclusions_of.Reads as exclusions-of-reads
-use Rattle.columns.proofs.loads_of.Reads as loads-of-reads
-use Rattle.partial.proofs.start.Reads as start-reads
-use Rattle.run.proofs.guide_of.Reads as guide-of-reads
-use Rattle.run.proofs.run.Reads as run-reads
-use Rattle.run.proofs.sizes_of.Reads as sizes-of-reads
-use Rattle.schedule.proofs.higher.Reads as higher-reads
 
 pub run-table-spec : {M : Type 1} → statement M
 run-table-spec =
@@ -33,14 +25,14 @@ run-table-spec =
     (λ c. search needs)  -- array-write-notes-2
     (λ c. search needs)  -- slice-aggregate-run
     (λ c κs.
-    let v = c .before .before .before .before .before .before .before .before .before .before .before .before .before .before .before .before .before .before .before .before .before .before .before .before .before .before .before .before .before in
+    let v = c .before .before .before .before .before .before .before .before .before .before .before .before .before .before .before .before .before .before .before .before .before .before .before .before .before .before .before .before .before .before .before in
     let b = v .before .before .before .before .before .before .before .before .before .before .before .before .before .before .before .before .before .before .before .before in
     let l = lends-table (b .pre .0) (v .before .before .before .before .before .before .before .before .before .before .before .before .before .before .before .sizes-of .ensures) (v .before .before .before .before .before .before .before .before .before .higher .ensures) (v .before .before .before .before .before .before .exclusions-of .ensures) (v .before .before .loads-of .ensures) (v .before .amounts-of .ensures) in
-    ((b .args .table, l, v .start .ensures), b .pre .1, search needs))  -- run-requires
+    ((b .args .table, l, v .start .ensures, learnt-start (knows-start _ 16384)), b .pre .1, search needs))  -- run-requires
     (λ c. search needs)  -- same-length
     (λ c.
     let r = c .before .before .before in
-    let v = r .before .before .before .before .before .before .before .before .before .before .before .before .before .before .before .before .before .before .before .before .before .before .before .before .before .before .before .before .before .before in
+    let v = r .before .before .before .before .before .before .before .before .before .before .before .before .before .before .before .before .before .before .before .before .before .before .before .before .before .before .before .before .before .before .before .before in
     let b = v .before .before .before .before .before .before .before .before .before .before .before .before .before .before .before .before .before .before .before .before in
     let l = lends-table (b .pre .0) (v .before .before .before .before .before .before .before .before .before .before .before .before .before .before .before .sizes-of .ensures) (v .before .before .before .before .before .before .before .before .before .higher .ensures) (v .before .before .before .before .before .before .exclusions-of .ensures) (v .before .before .loads-of .ensures) (v .before .amounts-of .ensures) in
-    r .run .ensures (b .args .table) l (v .start .ensures)))  -- returns
+    r .run .ensures (b .args .table) l (v .start .ensures) (learnt-start (knows-start _ 16384))))  -- returns

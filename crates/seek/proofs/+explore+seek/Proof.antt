@@ -8,6 +8,7 @@ use lib.ListN.{length}
 use Rattle.table.specs.declared.Table.{Table}
 use Rattle.region.specs.Lends.{Lends}
 use Rattle.region.specs.Begins.{Begins}
+use Rattle.memo.specs.Memo.{Learnt}
 use Rattle.twin.proofs.Asking.{asks}
 use Rattle.branching.proofs.Open.{open-low}
 use Rattle.seek.proofs.Seeking.{sought-neither, sought-end, bounded-begins, bounded-hopeless, bounded-then, explored-twin, explored-closed, explored-begins, explored-falls, explored-open, Seeking, seeking-start, seeking-begins, seeking-stop, seeking-next, seeking-end}
@@ -30,31 +31,32 @@ use Rattle.seek.proofs.turned.Reads as turned-reads
 use Rattle.seek.proofs.+explore+seek.{statement}
 use Rattle.seek.proofs.+explore+seek.Tie.{close}
 
-abbrev μ-explore : Measures 3 explore-kinds.ps ℕ
+abbrev μ-explore : Measures 5 explore-kinds.ps ℕ
 μ-explore κs a = 2 * a .1 .1 .1 .1 .1 .1 .1 .1 .1 .1 .1 .1 .1 .1 .1 .0 .left
 
-abbrev μ-seek : Measures 3 seek-kinds.ps ℕ
+abbrev μ-seek : Measures 5 seek-kinds.ps ℕ
 μ-seek κs a = 2 * a .1 .1 .1 .1 .1 .1 .1 .1 .1 .1 .1 .1 .1 .1 .1 .0 .left + 1
 
-abbrev explore-at : ℕ → In 3 explore-kinds.ps
-explore-at t = and 3 explore-kinds.ps (is 3 explore-kinds.ps μ-explore t) explore.Pre
+abbrev explore-at : ℕ → In 5 explore-kinds.ps
+explore-at t = and 5 explore-kinds.ps (is 5 explore-kinds.ps μ-explore t) explore.Pre
 
-abbrev explore-below : ℕ → In 3 explore-kinds.ps
-explore-below t = and 3 explore-kinds.ps (falls 3 explore-kinds.ps _<_ μ-explore t) explore.Pre
+abbrev explore-below : ℕ → In 5 explore-kinds.ps
+explore-below t = and 5 explore-kinds.ps (falls 5 explore-kinds.ps _<_ μ-explore t) explore.Pre
 
-abbrev seek-at : ℕ → In 3 seek-kinds.ps
-seek-at t = and 3 seek-kinds.ps (is 3 seek-kinds.ps μ-seek t) seek.Pre
+abbrev seek-at : ℕ → In 5 seek-kinds.ps
+seek-at t = and 5 seek-kinds.ps (is 5 seek-kinds.ps μ-seek t) seek.Pre
 
-abbrev seek-below : ℕ → In 3 seek-kinds.ps
-seek-below t = and 3 seek-kinds.ps (falls 3 seek-kinds.ps _<_ μ-seek t) seek.Pre
+abbrev seek-below : ℕ → In 5 seek-kinds.ps
+seek-below t = and 5 seek-kinds.ps (falls 5 seek-kinds.ps _<_ μ-seek t) seek.Pre
 
 abbrev seek-Inv-loop : seek-lts.InvT-loop
-seek-Inv-loop work period deadline priority higher residence memory exclusions co sender receiver loads amounts guide sizes s listing list₀ places count limited notes₀ on k first at₀ i₀ list notes at i =
+seek-Inv-loop work period deadline priority higher residence memory exclusions co sender receiver loads amounts guide sizes s listing list₀ places count limited notes₀ known₀ memo₀ on k first at₀ i₀ list notes known memo at i =
     (i ≤ sizes .processors) × (length list ≡ length list₀) × (length notes ≡ length notes₀)
-    × ((t : Table) → Lends t sizes work period deadline priority higher residence memory exclusions co sender receiver loads amounts → Begins t listing places s list₀ at₀ → Seeking t listing places s k list₀ at₀ first (sizes .processors) i list at)
+    × ((t : Table) → Lends t sizes work period deadline priority higher residence memory exclusions co sender receiver loads amounts → Begins t listing places s list₀ at₀ → Learnt t guide known₀ memo₀
+    → Seeking t listing places s k list₀ at₀ first (sizes .processors) i list at × Learnt t guide known memo)
 
 abbrev seek-μ-loop : seek-lts.MeasureT-loop
-seek-μ-loop work period deadline priority higher residence memory exclusions co sender receiver loads amounts guide sizes s listing list₀ places count limited notes₀ on k first at₀ i₀ list notes at i = sizes .processors - i
+seek-μ-loop work period deadline priority higher residence memory exclusions co sender receiver loads amounts guide sizes s listing list₀ places count limited notes₀ known₀ memo₀ on k first at₀ i₀ list notes known memo at i = sizes .processors - i
 
 pub +explore+seek-spec : {M : Type 1} → statement M
 +explore+seek-spec = close μ-explore μ-seek (λ t. explore-lts.spec (
@@ -68,28 +70,33 @@ pub +explore+seek-spec : {M : Type 1} → statement M
     (explore-at t)
     explore.Post
     (λ c κs. let a = c .before .before .before .pre .1 in (a .0 .0, asks (a .0 .1 .rules) (a .0 .2 .fits) (a .2)))  -- twin-requires
-    (λ c u l b.
+    (λ c u l b k.
     let w = c .before in
-    explored-twin _ b (w .twin .ensures u (asks (l .rules) (b .fits) (w .before .before .before .before .pre .1 .2))) (c .if1 .taken) _)  -- returns
-    (λ c κs. let a = c .before .before .before .before .before .before .pre .1 in (a .0, a .1, a .2))  -- enter-requires
+    (explored-twin _ b (w .twin .ensures u (asks (l .rules) (b .fits) (w .before .before .before .before .pre .1 .2))) (c .if1 .taken) _, k))  -- returns
+    (λ c κs. let a = c .before .before .before .before .before .before .before .pre .1 in ((a .0 .0, a .0 .1, a .0 .2, a .0 .3 .knows), a .1, a .2))  -- enter-requires
     (λ c. search needs)  -- same-length
-    (λ c u l b.
+    (λ c u l b k.
     let w = c .before .before .before .before in
-    explored-closed (w .enter .result) (w .enter .ensures u l b) (not-true (w .enter .result .passes) (c .if2 .taken)) _)  -- returns-2
+    let e = w .enter .ensures u l b (k .knows) in
+    (explored-closed (w .enter .result) (e .0) (not-true (w .enter .result .passes) (c .if2 .taken)) _, record { knows = e .1; keeps = k .keeps }))  -- returns-2
     (λ c κs.
-    let w = c .before .before .before .before .before .before .before in
-    let a = w .before .before .before .before .before .before .before .pre in
-    let e = w .enter .ensures (a .1 .0 .0) (a .1 .0 .1) (a .1 .0 .2) in
-    let f = not-false (w .enter .result .passes) (c .before .before .before .if2 .left) in
-    (omega (arith, a .0, explored-falls (w .enter .result) e f (a .1 .1)), ((a .1 .0 .0, a .1 .0 .1, explored-begins (w .enter .result) e f), a .1 .3)))  -- seek-requires
+    let w = c .before .before .before .before .before .before .before .before .before in
+    let a = w .before .before .before .before .before .before .before .before .pre in
+    let k = a .1 .0 .3 in
+    let e = w .enter .ensures (a .1 .0 .0) (a .1 .0 .1) (a .1 .0 .2) (k .knows) in
+    let f = not-false (w .enter .result .passes) (c .before .before .before .before .before .if2 .left) in (
+      omega (arith, a .0, explored-falls (w .enter .result) (e .0) f (a .1 .1)),
+      ((a .1 .0 .0, a .1 .0 .1, explored-begins (w .enter .result) (e .0) f, record { knows = e .1; keeps = k .keeps }), a .1 .3),
+    ))  -- seek-requires
     (λ c. search needs)  -- same-length-2
     (λ c. search needs)  -- same-length-3
-    (λ c u l b.
+    (λ c u l b k.
     let v = c .before .before .before .before in
-    let w = v .before .before .before .before .before .before .before .before in
-    let e = w .enter .ensures u l b in
-    let f = not-false (w .enter .result .passes) (v .before .before .before .before .if2 .left) in
-    explored-open (w .enter .result) e f (v .seek .result) (v .seek .ensures u l (explored-begins (w .enter .result) e f))))  -- returns-3
+    let w = v .before .before .before .before .before .before .before .before .before .before in
+    let e = w .enter .ensures u l b (k .knows) in
+    let f = not-false (w .enter .result .passes) (v .before .before .before .before .before .before .if2 .left) in
+    let x = v .seek .ensures u l (explored-begins (w .enter .result) (e .0) f) (record { knows = e .1; keeps = k .keeps }) in
+    (explored-open (w .enter .result) (e .0) f (v .seek .result) (x .0), x .1)))  -- returns-3
     λ t. seek-lts.spec (
       gives-up-reads.Asked,
       gives-up-reads.Learnt,
@@ -112,94 +119,106 @@ pub +explore+seek-spec : {M : Type 1} → statement M
     seek-μ-loop
     (λ c κs. c .before .before .before .before .pre .1 .1)  -- gives-up-requires
     (λ c. search needs)  -- same-length
-    (λ c u l b. sought-neither b (c .before .before .before .gives-up .ensures (c .if1 .taken)))  -- returns
+    (λ c u l b k. (sought-neither b (c .before .before .before .gives-up .ensures (c .if1 .taken)), k))  -- returns
     (λ c. search needs)  -- same-length-2
-    (λ c u l b. sought-end b (c .if2 .taken))  -- returns-2
+    (λ c u l b k. (sought-end b (c .if2 .taken), k))  -- returns-2
     (λ c κs.
-    let g = c .before .before .before .before .before .before .before in
+    let g = c .before .before .before .before .before .before .before .before .before in
     let a = g .before .before .before .before .before .pre .1 in
     (a .0, omega (arith, a .1, g .gives-up .kept .1 .0)))  -- bound-requires
     (λ c. search needs)  -- same-length-3
     (λ c. search needs)  -- same-length-4
-    (λ c u l b. let w = c .before .before .before .before .before in bounded-hopeless (w .bound .result) (w .bound .ensures u l b) (c .if3 .taken) _)  -- returns-3
+    (λ c u l b k.
+    let w = c .before .before .before .before .before in
+    let m = w .bound .ensures u l b k in
+    (bounded-hopeless (w .bound .result) (m .0) (c .if3 .taken) _, m .1))  -- returns-3
     (λ c κs.
-    let w = c .before .before .before .before .before .before .before in
-    let g = w .before .before .before .before .before .before .before .before in
+    let w = c .before .before .before .before .before .before .before .before in
+    let g = w .before .before .before .before .before .before .before .before .before .before in
     let a = g .before .before .before .before .before .pre .1 in
-    let m = w .bound .ensures (a .0 .0) (a .0 .1) (a .0 .2) in (
-      (a .0 .0, a .0 .1, a .0 .2 .fits),
-      omega (arith, w .before .before .before .if2 .left),
-      omega (arith, m .ledger .room, m .ledger .long),
+    let m = w .bound .ensures (a .0 .0) (a .0 .1) (a .0 .2) (a .0 .3) in (
+      (a .0 .0, a .0 .1, a .0 .2 .fits, m .1 .knows),
+      omega (arith, w .before .before .before .before .before .if2 .left),
+      omega (arith, m .0 .ledger .room, m .0 .ledger .long),
       omega (arith, a .1, g .gives-up .kept .1 .0, w .bound .kept .1 .1 .1 .1 .1 .1 .1 .1 .1 .1 .1 .1 .1 .1 .1 .1 .1 .1 .1 .1 .0),
     ))  -- pick-requires
     (λ c κs.
     let n = c .before .before .before in
-    let w = n .before .before .before .before .before .before .before .before in
-    let g = w .before .before .before .before .before .before .before .before in
+    let w = n .before .before .before .before .before .before .before .before .before in
+    let g = w .before .before .before .before .before .before .before .before .before .before in
     let a = g .before .before .before .before .before .pre .1 in
     (omega (arith, a .0 .1 .rules .processors, a .0 .1 .rules .sound .processors .some), omega (arith, a .1, g .gives-up .kept .1 .0, w .bound .kept .1 .1 .1 .1 .1 .1 .1 .1 .1 .1 .1 .1 .1 .1 .1 .1 .1 .1 .1 .1 .0, n .pick .kept .1 .1 .1 .1 .1 .1 .1 .1 .1 .1 .1 .1 .1 .1 .1 .1 .1 .1 .1 .1 .0)))  -- offset-requires
-    (λ c. (omega arith, refl, refl, λ u l b. seeking-start b (c .before .before .before .before .before .before .pick .result) (c .before .before .offset .result) _ (c .before .before .offset .ensures)))  -- loop-holds
+    (λ c. (omega arith, refl, refl, λ u l b k. (seeking-start b (c .before .before .before .before .before .before .pick .result) (c .before .before .offset .result) _ (c .before .before .offset .ensures), k)))  -- loop-holds
     (λ c κs.
     let o = c .before .before .before .before .before in
-    let l = o .before .before .before .before .before .before .before .before .before .before .before .before .before .before .before .before .before .before .before .before .before .before .before .before .before .pre .1 .0 .1 in
+    let l = o .before .before .before .before .before .before .before .before .before .before .before .before .before .before .before .before .before .before .before .before .before .before .before .before .before .before .before .before .pre .1 .0 .1 in
     (o .offset .ensures, c .if4 .taken, omega (arith, l .rules .processors, l .rules .sound .processors .most)))  -- turned-requires
     (λ c κs.
-    let i = c .before .before .before .before .before in
+    let i = c .before .before .before .before .before .before .before in
     let n = i .before .before .before .before .before .before .before in
-    let w = n .before .before .before .before .before .before .before .before in
-    let g = w .before .before .before .before .before .before .before .before in
+    let w = n .before .before .before .before .before .before .before .before .before in
+    let g = w .before .before .before .before .before .before .before .before .before .before in
     let a = g .before .before .before .before .before .pre in
-    let b = bounded-begins (w .bound .result) (w .bound .ensures (a .1 .0 .0) (a .1 .0 .1) (a .1 .0 .2)) (a .1 .0 .2) in (
+    let u = a .1 .0 .0 in
+    let l = a .1 .0 .1 in
+    let m = w .bound .ensures u l (a .1 .0 .2) (a .1 .0 .3) in
+    let b = bounded-begins (w .bound .result) (m .0) (a .1 .0 .2) in
+    let v = i .loop .inv .3 u l b (record { knows = n .pick .ensures .1 u l (b .fits) (m .1 .knows); keeps = m .1 .keeps }) in (
       omega (arith, a .0),
       (
-        (a .1 .0 .0, a .1 .0 .1, seeking-begins (i .loop .inv .3 (a .1 .0 .0) (a .1 .0 .1) b) b),
-        n .pick .ensures,
-        c .before .before .turned .ensures .0,
+        (u, l, seeking-begins (v .0) b, v .1),
+        n .pick .ensures .0,
+        c .before .before .before .before .turned .ensures .0,
         omega (arith, a .1 .1, g .gives-up .kept .1 .0, w .bound .kept .1 .1 .1 .1 .1 .1 .1 .1 .1 .1 .1 .1 .1 .1 .1 .1 .1 .1 .1 .1 .0, n .pick .kept .1 .1 .1 .1 .1 .1 .1 .1 .1 .1 .1 .1 .1 .1 .1 .1 .1 .1 .1 .1 .0, i .before .before .before .offset .kept .1 .0, i .loop .inv .2),
       ),
     ))  -- explore-requires
-    (λ c. let i = c .before .before .before .before .before .before .before .before .before .before .before .before in c .before .before .before .before .before .before .explore .kept .1 .1 .1 .1 .1 .1 .1 .1 .1 .1 .1 .1 .1 .1 .1 .1 .1 .1 .1 .0 ∙ i .loop .inv .1 ∙ i .before .before .before .before .before .before .before .before .before .before .before .before .before .before .before .bound .kept .1 .1 .1 .1 .1 .1 .1 .1 .1 .1 .1 .1 .1 .1 .1 .1 .1 .0)  -- same-length-5
+    (λ c. let i = c .before .before .before .before .before .before .before .before .before .before .before .before .before .before in c .before .before .before .before .before .before .explore .kept .1 .1 .1 .1 .1 .1 .1 .1 .1 .1 .1 .1 .1 .1 .1 .1 .1 .1 .1 .0 ∙ i .loop .inv .1 ∙ i .before .before .before .before .before .before .before .before .before .before .before .before .before .before .before .before .bound .kept .1 .1 .1 .1 .1 .1 .1 .1 .1 .1 .1 .1 .1 .1 .1 .1 .1 .0)  -- same-length-5
     (λ c.
-    let i = c .before .before .before .before .before .before .before .before .before .before .before .before in
+    let i = c .before .before .before .before .before .before .before .before .before .before .before .before .before .before in
     let n = i .before .before .before .before .before .before .before in
-    c .before .before .before .before .before .before .explore .kept .1 .1 .1 .1 .1 .1 .1 .1 .1 .1 .1 .1 .1 .1 .1 .1 .1 .1 .1 .1 .1 .1 .1 .0 ∙ i .loop .inv .2 ∙ i .before .before .before .offset .kept .1 .0 ∙ n .pick .kept .1 .1 .1 .1 .1 .1 .1 .1 .1 .1 .1 .1 .1 .1 .1 .1 .1 .1 .1 .1 .0 ∙ n .before .before .before .before .before .before .before .before .bound .kept .1 .1 .1 .1 .1 .1 .1 .1 .1 .1 .1 .1 .1 .1 .1 .1 .1 .1 .1 .1 .0 ∙ n .before .before .before .before .before .before .before .before .before .before .before .before .before .before .before .before .gives-up .kept .1 .0)  -- same-length-6
-    (λ c u l b.
+    c .before .before .before .before .before .before .explore .kept .1 .1 .1 .1 .1 .1 .1 .1 .1 .1 .1 .1 .1 .1 .1 .1 .1 .1 .1 .1 .1 .1 .1 .0 ∙ i .loop .inv .2 ∙ i .before .before .before .offset .kept .1 .0 ∙ n .pick .kept .1 .1 .1 .1 .1 .1 .1 .1 .1 .1 .1 .1 .1 .1 .1 .1 .1 .1 .1 .1 .0 ∙ n .before .before .before .before .before .before .before .before .before .bound .kept .1 .1 .1 .1 .1 .1 .1 .1 .1 .1 .1 .1 .1 .1 .1 .1 .1 .1 .1 .1 .0 ∙ n .before .before .before .before .before .before .before .before .before .before .before .before .before .before .before .before .before .before .before .gives-up .kept .1 .0)  -- same-length-6
+    (λ c u l b k.
     let x = c .before .before .before .before .before .before in
-    let i = x .before .before .before .before .before .before in
-    let w = i .before .before .before .before .before .before .before .before .before .before .before .before .before .before .before in
-    let m = w .bound .ensures u l b in
-    let d = bounded-begins (w .bound .result) m b in
-    let v = i .loop .inv .3 u l d in
-    bounded-then (w .bound .result) m (x .explore .result)
-    (seeking-stop v (x .explore .result) (x .explore .ensures u l (seeking-begins v d)) (not-true (x .explore .result .none) (c .if5 .taken))))  -- returns-4
+    let i = x .before .before .before .before .before .before .before .before in
+    let n = i .before .before .before .before .before .before .before in
+    let w = n .before .before .before .before .before .before .before .before .before in
+    let m = w .bound .ensures u l b k in
+    let d = bounded-begins (w .bound .result) (m .0) b in
+    let v = i .loop .inv .3 u l d (record { knows = n .pick .ensures .1 u l (b .fits) (m .1 .knows); keeps = m .1 .keeps }) in
+    let e = x .explore .ensures u l (seeking-begins (v .0) d) (v .1) in
+    (bounded-then (w .bound .result) (m .0) (x .explore .result) (seeking-stop (v .0) (x .explore .result) (e .0) (not-true (x .explore .result .none) (c .if5 .taken))), e .1))  -- returns-4
     (λ c. search needs)  -- add-i
-    (λ c. omega (arith, c .before .before .before .before .before .before .before .before .before .before .if4 .taken))  -- loop-less
+    (λ c. omega (arith, c .before .before .before .before .before .before .before .before .before .before .before .before .if4 .taken))  -- loop-less
     (λ c.
     let x = c .before .before .before .before .before .before in
-    let i = x .before .before .before .before .before .before in (
-      omega (arith, c .before .before .before .before .before .before .before .before .before .before .if4 .taken),
+    let i = x .before .before .before .before .before .before .before .before in
+    let r = c .before .before .before .before .before .before .before .before .before .before .before .turned .ensures in (
+      omega (arith, c .before .before .before .before .before .before .before .before .before .before .before .before .if4 .taken),
       x .explore .kept .1 .1 .1 .1 .1 .1 .1 .1 .1 .1 .1 .1 .1 .1 .1 .1 .1 .1 .1 .0 ∙ i .loop .inv .1,
       x .explore .kept .1 .1 .1 .1 .1 .1 .1 .1 .1 .1 .1 .1 .1 .1 .1 .1 .1 .1 .1 .1 .1 .1 .1 .0 ∙ i .loop .inv .2,
-      λ u l b. let v = i .loop .inv .3 u l b in
-          seeking-next v (x .explore .result) (x .explore .ensures u l (seeking-begins v b)) (c .before .before .before .before .before .before .before .before .before .turned .ensures .0) (c .before .before .before .before .before .before .before .before .before .turned .ensures .1) (not-false (x .explore .result .none) (c .if5 .left)),
+      λ u l b k. let v = i .loop .inv .3 u l b k in
+          let e = x .explore .ensures u l (seeking-begins (v .0) b) (v .1) in
+          (seeking-next (v .0) (x .explore .result) (e .0) (r .0) (r .1) (not-false (x .explore .result .none) (c .if5 .left)), e .1),
     ))  -- loop-again
     (λ c κs.
     let i = c .before .before .before in
     let n = i .before .before .before .before .before .before .before in
-    let w = n .before .before .before .before .before .before .before .before in
-    let g = w .before .before .before .before .before .before .before .before in
+    let w = n .before .before .before .before .before .before .before .before .before in
+    let g = w .before .before .before .before .before .before .before .before .before .before in
     let a = g .before .before .before .before .before .pre .1 in
-    omega (arith, open-low (a .0 .1) (a .0 .2 .fits) _ (n .pick .ensures), a .1, g .gives-up .kept .1 .0, w .bound .kept .1 .1 .1 .1 .1 .1 .1 .1 .1 .1 .1 .1 .1 .1 .1 .1 .1 .1 .1 .1 .0, n .pick .kept .1 .1 .1 .1 .1 .1 .1 .1 .1 .1 .1 .1 .1 .1 .1 .1 .1 .1 .1 .1 .0, i .before .before .before .offset .kept .1 .0, i .loop .inv .2))  -- blame-requires
-    (λ c. let i = c .before .before .before .before .before .before in i .loop .inv .1 ∙ i .before .before .before .before .before .before .before .before .before .before .before .before .before .before .before .bound .kept .1 .1 .1 .1 .1 .1 .1 .1 .1 .1 .1 .1 .1 .1 .1 .1 .1 .0)  -- same-length-7
+    omega (arith, open-low (a .0 .1) (a .0 .2 .fits) _ (n .pick .ensures .0), a .1, g .gives-up .kept .1 .0, w .bound .kept .1 .1 .1 .1 .1 .1 .1 .1 .1 .1 .1 .1 .1 .1 .1 .1 .1 .1 .1 .1 .0, n .pick .kept .1 .1 .1 .1 .1 .1 .1 .1 .1 .1 .1 .1 .1 .1 .1 .1 .1 .1 .1 .1 .0, i .before .before .before .offset .kept .1 .0, i .loop .inv .2))  -- blame-requires
+    (λ c. let i = c .before .before .before .before .before .before in i .loop .inv .1 ∙ i .before .before .before .before .before .before .before .before .before .before .before .before .before .before .before .before .bound .kept .1 .1 .1 .1 .1 .1 .1 .1 .1 .1 .1 .1 .1 .1 .1 .1 .1 .0)  -- same-length-7
     (λ c.
     let i = c .before .before .before .before .before .before in
     let n = i .before .before .before .before .before .before .before in
-    c .before .before .blame .kept .0 ∙ i .loop .inv .2 ∙ i .before .before .before .offset .kept .1 .0 ∙ n .pick .kept .1 .1 .1 .1 .1 .1 .1 .1 .1 .1 .1 .1 .1 .1 .1 .1 .1 .1 .1 .1 .0 ∙ n .before .before .before .before .before .before .before .before .bound .kept .1 .1 .1 .1 .1 .1 .1 .1 .1 .1 .1 .1 .1 .1 .1 .1 .1 .1 .1 .1 .0 ∙ n .before .before .before .before .before .before .before .before .before .before .before .before .before .before .before .before .gives-up .kept .1 .0)  -- same-length-8
-    (λ c u l b.
+    c .before .before .blame .kept .0 ∙ i .loop .inv .2 ∙ i .before .before .before .offset .kept .1 .0 ∙ n .pick .kept .1 .1 .1 .1 .1 .1 .1 .1 .1 .1 .1 .1 .1 .1 .1 .1 .1 .1 .1 .1 .0 ∙ n .before .before .before .before .before .before .before .before .before .bound .kept .1 .1 .1 .1 .1 .1 .1 .1 .1 .1 .1 .1 .1 .1 .1 .1 .1 .1 .1 .1 .0 ∙ n .before .before .before .before .before .before .before .before .before .before .before .before .before .before .before .before .before .before .before .gives-up .kept .1 .0)  -- same-length-8
+    (λ c u l b k.
     let i = c .before .before .before .before .before .before in
     let n = i .before .before .before .before .before .before .before in
-    let w = n .before .before .before .before .before .before .before .before in
-    let m = w .bound .ensures u l b in
-    bounded-then (w .bound .result) m _
-    (seeking-end (i .loop .inv .3 u l (bounded-begins (w .bound .result) m b)) (b .fits) (omega (arith, c .before .before .before .before .if4 .left))
-    (b .fits .open-task (n .pick .result) (n .pick .ensures) .0) (l .rules .processors) _))  -- returns-5
+    let w = n .before .before .before .before .before .before .before .before .before in
+    let m = w .bound .ensures u l b k in
+    let v = i .loop .inv .3 u l (bounded-begins (w .bound .result) (m .0) b) (record { knows = n .pick .ensures .1 u l (b .fits) (m .1 .knows); keeps = m .1 .keeps }) in (
+      bounded-then (w .bound .result) (m .0) _
+          (seeking-end (v .0) (b .fits) (omega (arith, c .before .before .before .before .if4 .left)) (b .fits .open-task (n .pick .result) (n .pick .ensures .0) .0) (l .rules .processors) _),
+      v .1,
+    ))  -- returns-5

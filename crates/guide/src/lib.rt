@@ -1,0 +1,397 @@
+// The weights that guide the search: how large each task is, and how hard to place.
+ghost use mathlib.Core.Path.{_≡_};
+ghost use Prim.Native.Nat.{_≤_, _<_};
+ghost use lib.ListN.{length};
+ghost use Rattle.schedule.specs.Arrays.{InLimits};
+use partial::Sizes;
+use partial::State;
+
+// x as a wider number.
+fn wide(x: u32) -> u64
+    ensures { λ r. ⌜ (r ≡ x) × (r < 4294967296) ⌝ }
+{
+    x as u64
+}
+
+// x as long as it is below 2^40, as every load and every room is.
+fn short(x: u64) -> u64
+    ensures { λ r. ⌜ r < 1099511627776 ⌝ }
+{
+    x % 1099511627776
+}
+
+// x, but no more than most.
+fn limited(x: u64, most: u64) -> u64
+    ensures { λ r. ⌜ r ≤ most ⌝ }
+{
+    if most < x { most } else { x }
+}
+
+// What all processors have together.
+fn total(rooms: [u64; 8]) -> u64
+    ensures { λ r. ⌜ r ≤ 8796093022208 ⌝ }
+{
+    let mut sum: u64 = 0;
+    let mut p: usize = 0;
+    while p < 8 {
+        sum += short(rooms[p]);
+        p += 1;
+    }
+    sum
+}
+
+// x in millionths of all.
+fn millionths(x: u64, all: u64) -> u64
+    requires { ⌜ all ≤ 8796093022208 ⌝ }
+    ensures { λ r. ⌜ r ≤ 1000000 ⌝ }
+{
+    limited(short(x) * 1000000 / (all + 1), 1000000)
+}
+
+// The millionths of all load and of all memory that each task takes, together.
+fn weights_of<'a>(memory: &'a [u32; 24], loads: &'a [u64; 24], s: State) -> [u32; 24] {
+    let memory_rooms = s.memory;
+    let load_rooms = s.load;
+    let all_memory = total(memory_rooms);
+    let all_load = total(load_rooms);
+    let mut weights = [0u32; 24];
+    let mut k: usize = 0;
+    while k < 24 {
+        let sum = millionths(loads[k], all_load) + millionths(wide(memory[k]), all_memory);
+        weights[k] = (sum % 4294967296) as u32;
+        k += 1;
+    }
+    weights
+}
+
+// Whether task j with weight b comes before task k with weight a.
+fn precedes(a: u32, k: usize, b: u32, j: usize) -> bool {
+    if a == b {
+        return j < k;
+    }
+    a < b
+}
+
+// How many tasks come before task k by falling weight.
+fn rank(weights: &[u32; 24], k: usize) -> usize
+    requires { ⌜ k < 24 ⌝ }
+{
+    let mut before: usize = 0;
+    let mut j: usize = 0;
+    while j < 24 {
+        if precedes(weights[k], k, weights[j], j) {
+            before += 1;
+        }
+        j += 1;
+    }
+    before
+}
+
+// Whether tasks i and j may reside on processor p, and it has the memory and the load for both.
+fn takes_both<'a>(
+    residence: &'a [u32; 24],
+    memory: &'a [u32; 24],
+    loads: &'a [u64; 24],
+    s: State,
+    i: usize,
+    j: usize,
+    p: usize,
+) -> bool
+    requires { ⌜ (i < 24) × (j < 24) × (p < 8) ⌝ }
+{
+    if !mask::has(residence[i] & residence[j], p) {
+        return false;
+    }
+    if s.memory[p] < wide(memory[i]) + wide(memory[j]) {
+        return false;
+    }
+    short(loads[i]) + short(loads[j]) <= s.load[p]
+}
+
+// Whether no processor takes both tasks.
+fn nowhere<'a>(
+    residence: &'a [u32; 24],
+    memory: &'a [u32; 24],
+    loads: &'a [u64; 24],
+    s: State,
+    processors: usize,
+    i: usize,
+    j: usize,
+) -> bool
+    requires { ⌜ (processors ≤ 8) × (i < 24) × (j < 24) ⌝ }
+{
+    let mut p: usize = 0;
+    while p < processors {
+        if takes_both(residence, memory, loads, s, i, j, p) {
+            return false;
+        }
+        p += 1;
+    }
+    true
+}
+
+// Whether tasks i and j are late as a pair.
+fn late_pair<'a>(
+    work: &'a [u32; 24],
+    period: &'a [u32; 24],
+    deadline: &'a [u32; 24],
+    priority: &'a [u32; 24],
+    higher: &'a [u32; 24],
+    n: usize,
+    i: usize,
+    j: usize,
+) -> bool
+    requires { ⌜ InLimits n (now work) (now period) (now deadline) (now priority) (now higher) 0 × (i < n) × (j < n) ⌝ }
+{
+    let pair = mask::insert(mask::insert(0, i), j);
+    schedule::is_late(work, period, deadline, priority, higher, n, pair)
+}
+
+// Whether i and j are two tasks that can never stand on one processor.
+fn apart<'a>(
+    work: &'a [u32; 24],
+    period: &'a [u32; 24],
+    deadline: &'a [u32; 24],
+    priority: &'a [u32; 24],
+    higher: &'a [u32; 24],
+    residence: &'a [u32; 24],
+    memory: &'a [u32; 24],
+    exclusions: &'a [u32; 24],
+    loads: &'a [u64; 24],
+    sizes: Sizes,
+    s: State,
+    i: usize,
+    j: usize,
+) -> bool
+    requires { ⌜ InLimits (sizes .tasks) (now work) (now period) (now deadline) (now priority) (now higher) 0 × (sizes .processors ≤ 8) × (i < sizes .tasks) × (j < sizes .tasks) ⌝ }
+{
+    if i == j {
+        return false;
+    }
+    if mask::has(exclusions[i], j) {
+        return true;
+    }
+    if nowhere(residence, memory, loads, s, sizes.processors, i, j) {
+        return true;
+    }
+    late_pair(work, period, deadline, priority, higher, sizes.tasks, i, j)
+}
+
+// How many tasks can never stand beside task i.
+fn strangers<'a>(
+    work: &'a [u32; 24],
+    period: &'a [u32; 24],
+    deadline: &'a [u32; 24],
+    priority: &'a [u32; 24],
+    higher: &'a [u32; 24],
+    residence: &'a [u32; 24],
+    memory: &'a [u32; 24],
+    exclusions: &'a [u32; 24],
+    loads: &'a [u64; 24],
+    sizes: Sizes,
+    s: State,
+    i: usize,
+) -> u64
+    requires { ⌜ InLimits (sizes .tasks) (now work) (now period) (now deadline) (now priority) (now higher) 0 × (sizes .processors ≤ 8) × (i < sizes .tasks) ⌝ }
+    ensures { λ r. ⌜ r ≤ 24 ⌝ }
+{
+    let n = sizes.tasks;
+    let mut count: u64 = 0;
+    let mut j: usize = 0;
+    while j < n {
+        if apart(
+            work,
+            period,
+            deadline,
+            priority,
+            higher,
+            residence,
+            memory,
+            exclusions,
+            loads,
+            sizes,
+            s,
+            i,
+            j,
+        ) {
+            count += 1;
+        }
+        j += 1;
+    }
+    count
+}
+
+// A message of the task as a share of the network, in 32nds.
+fn message_weight(from: u32, to: u32, task: u32, amount: u64, capacity: u64) -> u64
+    ensures { λ r. ⌜ r ≤ 4096 ⌝ }
+{
+    if from != task {
+        if to != task {
+            return 0;
+        }
+    }
+    limited(
+        amount % 1125899906842624 * 32 / (capacity % 4611686018427387904 + 1),
+        4096,
+    )
+}
+
+// All messages of the task.
+fn messages_weight<'a>(
+    sender: &'a [u32; 64],
+    receiver: &'a [u32; 64],
+    amounts: &'a [u64; 64],
+    messages: usize,
+    capacity: u64,
+    task: u32,
+) -> u64
+    requires { ⌜ messages ≤ 64 ⌝ }
+    ensures { λ r. ⌜ r ≤ 262144 ⌝ }
+{
+    let mut sum: u64 = 0;
+    let mut j: usize = 0;
+    while j < messages {
+        sum += message_weight(sender[j], receiver[j], task, amounts[j], capacity);
+        j += 1;
+    }
+    sum
+}
+
+// How much of its deadline a task works, in 16ths.
+fn density(c: u32, d: u32) -> u64
+    ensures { λ r. ⌜ r ≤ 16 ⌝ }
+{
+    if d == 0 {
+        return 16;
+    }
+    limited(wide(c) * 16 / wide(d), 16)
+}
+
+// Millionths of all processors, in 32nds of one.
+fn scaled(part: u64, processors: usize) -> u64
+    requires { ⌜ (part ≤ 1000000) × (processors ≤ 8) ⌝ }
+    ensures { λ r. ⌜ r ≤ 256 ⌝ }
+{
+    limited(part * (processors as u64) * 32 / 1000000, 256)
+}
+
+// The load or the memory of a task, whichever is the larger share.
+fn bulk(load: u64, memory: u32, s: State, processors: usize) -> u64
+    requires { ⌜ processors ≤ 8 ⌝ }
+    ensures { λ r. ⌜ r ≤ 256 ⌝ }
+{
+    let memory_rooms = s.memory;
+    let load_rooms = s.load;
+    let by_load = scaled(millionths(load, total(load_rooms)), processors);
+    let by_memory = scaled(millionths(wide(memory), total(memory_rooms)), processors);
+    if by_load < by_memory {
+        by_memory
+    } else {
+        by_load
+    }
+}
+
+// How hard each task is to place, where nothing stands yet: the search places the hardest first.
+fn bases_of<'a>(
+    work: &'a [u32; 24],
+    period: &'a [u32; 24],
+    deadline: &'a [u32; 24],
+    priority: &'a [u32; 24],
+    higher: &'a [u32; 24],
+    residence: &'a [u32; 24],
+    memory: &'a [u32; 24],
+    exclusions: &'a [u32; 24],
+    sender: &'a [u32; 64],
+    receiver: &'a [u32; 64],
+    loads: &'a [u64; 24],
+    amounts: &'a [u64; 64],
+    sizes: Sizes,
+    s: State,
+) -> [u32; 24]
+    requires { ⌜ InLimits (sizes .tasks) (now work) (now period) (now deadline) (now priority) (now higher) 0 × (sizes .processors ≤ 8) × (sizes .messages ≤ 64) ⌝ }
+{
+    let n = sizes.tasks;
+    let mut bases = [0u32; 24];
+    let mut k: usize = 0;
+    while k < n {
+        let others = strangers(
+            work,
+            period,
+            deadline,
+            priority,
+            higher,
+            residence,
+            memory,
+            exclusions,
+            loads,
+            sizes,
+            s,
+            k,
+        );
+        let size = bulk(loads[k], memory[k], s, sizes.processors);
+        let messages = messages_weight(
+            sender,
+            receiver,
+            amounts,
+            sizes.messages,
+            s.traffic,
+            (k % 24) as u32,
+        );
+        let base = 16 + 16 * others + size + density(work[k], deadline[k]) + messages;
+        bases[k] = (base % 4294967296) as u32;
+        k += 1;
+    }
+    bases
+}
+
+// Five rows of 24 numbers: for each task its weight by load, by memory and by both, the tasks by falling weight, and how hard each is to place.
+// Nothing is claimed of the numbers: no answer rests on them, only how long the search takes. Remainders keep them small whatever the columns hold.
+pub fn guide_of<'a>(
+    work: &'a [u32; 24],
+    period: &'a [u32; 24],
+    deadline: &'a [u32; 24],
+    priority: &'a [u32; 24],
+    higher: &'a [u32; 24],
+    residence: &'a [u32; 24],
+    memory: &'a [u32; 24],
+    exclusions: &'a [u32; 24],
+    sender: &'a [u32; 64],
+    receiver: &'a [u32; 64],
+    loads: &'a [u64; 24],
+    amounts: &'a [u64; 64],
+    sizes: Sizes,
+    s: State,
+) -> [u32; 120]
+    requires { ⌜ InLimits (sizes .tasks) (now work) (now period) (now deadline) (now priority) (now higher) 0 × (sizes .processors ≤ 8) × (sizes .messages ≤ 64) ⌝ }
+    ensures { λ r. ⌜ length r ≡ 120 ⌝ }
+{
+    let weights = weights_of(memory, loads, s);
+    let bases = bases_of(
+        work,
+        period,
+        deadline,
+        priority,
+        higher,
+        residence,
+        memory,
+        exclusions,
+        sender,
+        receiver,
+        loads,
+        amounts,
+        sizes,
+        s,
+    );
+    let mut guide = [0u32; 120];
+    let mut k: usize = 0;
+    while k < 24 {
+        let place = 72 + rank(&weights, k) % 24;
+        guide[k] = (loads[k] % 4294967296) as u32;
+        guide[24 + k] = memory[k];
+        guide[48 + k] = weights[k];
+        guide[place] = (k % 24) as u32;
+        guide[96 + k] = bases[k];
+        k += 1;
+    }
+    guide
+}

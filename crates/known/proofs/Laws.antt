@@ -1,0 +1,83 @@
+-- Laws of the table of known sets: how it starts, what a word of it says, what may be written. Assumes nothing.
+use mathlib.Core.Path.{_≡_, refl, sym, subst}
+use mathlib.Core.Bool.{Bool, true, false, _&&_}
+use mathlib.Core.List.{List}
+use Prim.Native.Nat.{ℕ, zero, suc, _+_, _*_, _/_, _%_, _^_, _≤_, _<_}
+use native.Mathlib.Nat.{lt-of-lt-of-le}
+use native.Mathlib.Omega.{arith}
+use native.Mathlib.Decide.{ℕ-discrete, decLt}
+use mir.Val.{boolByte}
+use lib.Dec.{T, eqb, ltb→lt}
+use lib.Pow.{pow-mono}
+use lib.ListN.{length, getD, set, replicate}
+use lib.Seq.{getD-set-same, getD-set-other, set-out}
+use Rattle.finite.specs.Finite.{only}
+use Rattle.mask.specs.Mask.{has}
+use Rattle.mask.proofs.Laws.{has-zero}
+use Rattle.schedule.specs.Periodic.{Tasks, LateSet}
+use Rattle.schedule.specs.Arrays.{InLimits, Says}
+use Rattle.known.specs.Known.{Knows}
+
+-- a late set has a task
+late-member : {s : Tasks} {on : ℕ → Bool} → LateSet s on → (k : ℕ) × T (on k)
+late-member {s} {on} l = (l .task, member (on (l .task)) (eqb (l .tick % s .T (l .task)) 0) (s .C (l .task)) (omega (arith, l .late .unfinished-at)))
+  where
+    member : (b d : Bool) (work : ℕ) → 0 < only (b && d) work → T b
+    member true d work h = tt
+    member false d work h = omega arith
+
+-- a set of tasks leaves room for its verdict in a word
+pub small-set : {n x : ℕ} {c t d p higher : List ℕ} → InLimits n c t d p higher x → x < 2 ^ 24
+small-set {n} {x} h = lt-of-lt-of-le (ltb→lt x (2 ^ n) (h .inside)) (pow-mono (h .few))
+
+pub bool-small : (b : Bool) → boolByte b ≤ 1
+bool-small true = omega arith
+bool-small false = omega arith
+
+-- what a word says of its set is so
+abbrev Right : Tasks → ℕ → Type 0
+Right s word = Says (eqb (word % 2) 1) (LateSet s (has (word / 2)))
+
+-- at the start each word is 0, the empty set
+pub knows-start : (s : Tasks) (n : ℕ) → Knows s (replicate n 0)
+knows-start s n = record {
+  says = λ j l. subst (Right s) (sym (zeros n j)) (λ late. let m = late-member late in rw (has-zero (m .0)) at (m .1));
+}
+  where
+    zeros : (n j : ℕ) → _≡_ {A = ℕ} (getD (replicate n 0) j 0) 0
+    zeros zero j = refl
+    zeros (suc n) zero = refl
+    zeros (suc n) (suc j) = zeros n j
+
+-- the word for a set that was tested
+right-word : (s : Tasks) (x : ℕ) (late : Bool) → Says late (LateSet s (has x)) → Right s (2 * x + boolByte late)
+right-word s x true h =
+    let half : (2 * x + 1) / 2 ≡ x = omega arith in
+    let odd : (2 * x + 1) % 2 ≡ 1 = omega arith in
+    rw (odd, half) h
+right-word s x false h =
+    let half : (2 * x + 0) / 2 ≡ x = omega arith in
+    let even : (2 * x + 0) % 2 ≡ 0 = omega arith in
+    rw (even, half) h
+
+module _ {s : Tasks} {known : List ℕ} (k : Knows s known) where
+  -- a word whose set is x tells whether x is late
+  pub knows-hit : {j x : ℕ} → j < 8192 → getD known j 0 / 2 ≡ x → Says (eqb (getD known j 0 % 2) 1) (LateSet s (has x))
+  knows-hit {j} l e = subst (λ (y : ℕ). Says (eqb (getD known j 0 % 2) 1) (LateSet s (has y))) e (k .says j l)
+
+  -- the verdict on a set may be written anywhere
+  pub knows-set : (j x : ℕ) (late : Bool) → Says late (LateSet s (has x)) → Knows s (set known j (2 * x + boolByte late))
+  knows-set j x late h = record {
+    says = λ i l. go i l (ℕ-discrete i j) (decLt j (length known));
+  }
+    where
+      go : (i : ℕ) → i < 8192 → Dec (i ≡ j) → Dec (j < length known) → Right s (getD (set known j (2 * x + boolByte late)) i 0)
+      go i l (yes e) (yes b) = rw (e, getD-set-same known j (2 * x + boolByte late) 0 b) (right-word s x late h)
+      go i l (no e) b = subst (Right s) (sym (getD-set-other known j i (2 * x + boolByte late) 0 e)) (k .says i l)
+      go i l (yes e) (no b) = rw (set-out known j (2 * x + boolByte late) (omega arith)) (k .says i l)
+
+  -- and behind the first 8,192 words anything
+  pub knows-hint : {j : ℕ} (v : ℕ) → 8192 ≤ j → Knows s (set known j v)
+  knows-hint {j} v h = record {
+    says = λ i l. subst (Right s) (sym (getD-set-other known j i v 0 (λ e. omega arith))) (k .says i l);
+  }

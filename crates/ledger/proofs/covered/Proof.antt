@@ -1,0 +1,29 @@
+-- Whatever the hint is, the conflict that it names is tested; else the first that is a subset is looked for.
+use mathlib.Core.Path.{sym, ap, _∙_}
+use Prim.Native.Nat.{ℕ}
+use lib.Dec.{ltb}
+use native.Mathlib.Omega.{arith}
+use borrow.Author.Needs.{needs}
+use Rattle.finite.proofs.Some.{some-true}
+use Rattle.answer.proofs.Laws.{first-some}
+use Rattle.known.proofs.Laws.{knows-hint}
+use Rattle.ledger.proofs.covered.Statement.{statement}
+use Rattle.ledger.proofs.covered.Tie as tie
+
+pub covered-spec : {M : Type 1} → statement M
+covered-spec =
+    tie.close
+    (tie.spec
+    (λ c κs. search needs)  -- place-of-requires
+    (λ c. search needs)  -- add-at
+    (λ c. search needs)  -- mul-hint
+    (λ c. search needs)  -- element-copy-out-hint
+    (λ c. record { fits = omega arith })  -- cast-hint
+    (λ c κs. search needs)  -- holds-requires
+    (λ c. let h = c .before in (sym (some-true _ _ _ (h .before .if1 .taken) (sym (h .holds .ensures) ∙ c .if2 .taken)), λ s k. k))  -- returns
+    (λ c κs. search needs)  -- covering-requires
+    (λ c. search needs)  -- cast-known
+    (λ c. search needs)  -- mul-known
+    (λ c. search needs)  -- element-write-known
+    (λ c. let a = c .before .before .before .before .before .args in
+    (ap (λ (x : ℕ). ltb x (a .count)) (c .covering .ensures) ∙ first-some _ _, λ s k. knows-hint k _ (omega arith))))  -- returns-2

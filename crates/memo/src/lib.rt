@@ -1,0 +1,103 @@
+// What is kept of the bounds on what a processor can take, so that they are seldom worked out twice.
+ghost use mathlib.Core.Path.{_≡_};
+ghost use mathlib.Core.Bool.{true};
+ghost use mathlib.Core.List.{List};
+ghost use Prim.Native.Nat.{ℕ, _≤_, _<_};
+ghost use lib.Dec.{T};
+ghost use Rattle.table.specs.declared.Table.{Table};
+ghost use Rattle.memo.specs.Memo.{Capped, Memo, Key};
+
+// Whether a bound is kept, and which.
+pub struct Recalled {
+    pub hit: bool,
+    pub top: u64,
+}
+
+// x as a wider number.
+fn wide(x: u32) -> u64
+    ensures { λ r. ⌜ (r ≡ x) × (r < 4294967296) ⌝ }
+{
+    x as u64
+}
+
+// The entry for these tasks, candidates, row and memory left. Any entry would do: no answer rests on it.
+fn entry_of(on: u32, candidates: u32, row: usize, space: u64) -> usize
+    ensures { λ r. ⌜ r < 2048 ⌝ }
+{
+    let tasks = wide(on) * 2654435761 % 4294967296;
+    let open = wide(candidates) * 2246822519 % 4294967296;
+    let left = space % 4294967296 * 3266489917 % 4294967296;
+    let kind = (row % 4096) as u64 * 668265263;
+    let mixed = (tasks + open + left + kind) % 4294967296;
+    (mixed / 2097152) as usize
+}
+
+// Whether the entry that begins at j is for these tasks, candidates and row, with that much memory and load left.
+fn is_for(
+    memo: &[u64; 12288],
+    j: usize,
+    on: u32,
+    candidates: u32,
+    row: usize,
+    space: u64,
+    spare: u64,
+) -> bool
+    requires { ⌜ j ≤ 12282 ⌝ }
+    ensures { λ r. ⌜ (T r → Key (now (memo .entry)) j on candidates row space spare) ⌝ }
+{
+    if memo[j] != wide(on) {
+        return false;
+    }
+    if memo[j + 1] != wide(candidates) {
+        return false;
+    }
+    if memo[j + 2] != row as u64 {
+        return false;
+    }
+    if memo[j + 3] != space {
+        return false;
+    }
+    if memo[j + 4] != spare {
+        return false;
+    }
+    true
+}
+
+// The bound that is kept for these tasks, candidates and row, with that much memory (space) and load (spare) left.
+pub fn recall(
+    on: u32,
+    candidates: u32,
+    row: usize,
+    space: u64,
+    spare: u64,
+    memo: &[u64; 12288],
+) -> Recalled
+    ensures { λ r. ⌜ (r .hit ≡ true → (t : Table) (guide : List ℕ) → Memo t guide (now (memo .entry)) → Capped t guide on candidates row space spare (r .top)) ⌝ }
+{
+    let j = 6 * entry_of(on, candidates, row, space);
+    Recalled {
+        hit: is_for(memo, j, on, candidates, row, space, spare),
+        top: memo[j + 5],
+    }
+}
+
+// Keeps a bound, in the place of another.
+pub fn keep(
+    on: u32,
+    candidates: u32,
+    row: usize,
+    space: u64,
+    spare: u64,
+    top: u64,
+    memo: &mut [u64; 12288],
+)
+    ensures { λ _. ⌜ ((t : Table) (guide : List ℕ) → Memo t guide (now (memo .entry)) → Capped t guide on candidates row space spare top → Memo t guide (now (memo .exit))) ⌝ }
+{
+    let j = 6 * entry_of(on, candidates, row, space);
+    memo[j] = wide(on);
+    memo[j + 1] = wide(candidates);
+    memo[j + 2] = row as u64;
+    memo[j + 3] = space;
+    memo[j + 4] = spare;
+    memo[j + 5] = top;
+}
