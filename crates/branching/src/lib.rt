@@ -11,6 +11,7 @@ ghost use Rattle.known.specs.Known.{Knows};
 ghost use Rattle.partial.specs.Partial.{Fits};
 ghost use Rattle.region.specs.Lends.{Lends};
 ghost use Rattle.branching.specs.Notes.{heavier};
+use partial::Site;
 use partial::Sizes;
 use partial::State;
 
@@ -111,6 +112,13 @@ fn choices<'a>(
     let mut found: u64 = 0;
     let mut p: usize = 0;
     while p < sizes.processors {
+        let site = Site {
+            on: s.on[p],
+            left: s.left,
+            memory: s.memory[p],
+            load: s.load[p],
+            traffic: s.traffic,
+        };
         if partial::allows(
             residence,
             memory,
@@ -121,11 +129,11 @@ fn choices<'a>(
             loads,
             amounts,
             sizes,
-            s,
+            site,
             k,
             p,
         ) {
-            let set = mask::insert(s.on[p], k);
+            let set = mask::insert(site.on, k);
             if !passed_over(
                 work,
                 period,

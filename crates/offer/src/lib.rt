@@ -1,14 +1,17 @@
 // Which open tasks each processor can take: those that the rules allow there and that make no late set with what it has.
+ghost use mathlib.Core.Path.{_≡_};
 ghost use Prim.Native.Nat.{_<_};
 ghost use lib.Dec.{T};
 ghost use Rattle.mask.specs.Mask.{has};
 ghost use Rattle.table.specs.declared.Table.{Table};
 ghost use Rattle.conflict.specs.Entry.{tasksIn};
-ghost use Rattle.partial.specs.Partial.{Fits};
+ghost use Rattle.partial.specs.declared.State.{State};
+ghost use Rattle.partial.specs.Partial.{Fits, siteOf};
 ghost use Rattle.known.specs.Known.{Knows};
 ghost use Rattle.ledger.specs.Ledger.{Ledger};
 ghost use Rattle.region.specs.Lends.{Lends};
 ghost use Rattle.offer.specs.Offer.{JoinsAs, ChosenAs, OfferedAs};
+use partial::Site;
 use partial::Sizes;
 use partial::State;
 
@@ -46,7 +49,7 @@ fn join<'a>(
     loads: &'a [u64; 24],
     amounts: &'a [u64; 64],
     sizes: Sizes,
-    s: State,
+    site: Site,
     k: usize,
     p: usize,
     listing: bool,
@@ -55,9 +58,9 @@ fn join<'a>(
     count: usize,
     known: &mut [u32; 16384],
 ) -> Joining
-    requires { ⌜ ((t : Table) × Lends t sizes (now work) (now period) (now deadline) (now priority) (now higher) (now residence) (now memory) (now exclusions) (now co) (now sender) (now receiver) (now loads) (now amounts) × Fits t s × Ledger (tasksIn t) places (now list) count × Knows (tasksIn t) (now known)) × T (has (s .left) k) × (p < sizes .processors) ⌝ }
-    ensures { λ r. ⌜ ((t : Table) → Lends t sizes (now (work .entry)) (now (period .entry)) (now (deadline .entry)) (now (priority .entry)) (now (higher .entry)) (now (residence .entry)) (now (memory .entry)) (now (exclusions .entry)) (now (co .entry)) (now (sender .entry)) (now (receiver .entry)) (now (loads .entry)) (now (amounts .entry))
-        → Fits t s → Ledger (tasksIn t) places (now (list .entry)) count → Knows (tasksIn t) (now (known .entry)) → JoinsAs t listing places s k p (now (list .entry)) count (now (list .exit)) r × Knows (tasksIn t) (now (known .exit))) ⌝ }
+    requires { ⌜ ((t : Table) × (s : State) × Lends t sizes (now work) (now period) (now deadline) (now priority) (now higher) (now residence) (now memory) (now exclusions) (now co) (now sender) (now receiver) (now loads) (now amounts) × Fits t s × (site ≡ siteOf s p) × Ledger (tasksIn t) places (now list) count × Knows (tasksIn t) (now known)) × T (has (site .left) k) × (p < sizes .processors) ⌝ }
+    ensures { λ r. ⌜ ((t : Table) (s : State) → Lends t sizes (now (work .entry)) (now (period .entry)) (now (deadline .entry)) (now (priority .entry)) (now (higher .entry)) (now (residence .entry)) (now (memory .entry)) (now (exclusions .entry)) (now (co .entry)) (now (sender .entry)) (now (receiver .entry)) (now (loads .entry)) (now (amounts .entry))
+        → Fits t s → site ≡ siteOf s p → Ledger (tasksIn t) places (now (list .entry)) count → Knows (tasksIn t) (now (known .entry)) → JoinsAs t listing places s k p (now (list .entry)) count (now (list .exit)) r × Knows (tasksIn t) (now (known .exit))) ⌝ }
 {
     if !partial::allows(
         residence,
@@ -69,13 +72,13 @@ fn join<'a>(
         loads,
         amounts,
         sizes,
-        s,
+        site,
         k,
         p,
     ) {
         return Joining { able: false, count };
     }
-    let set = mask::insert(s.on[p], k);
+    let set = mask::insert(site.on, k);
     let tested = ledger::test(
         work,
         period,
@@ -124,6 +127,13 @@ fn candidates<'a>(
     ensures { λ r. ⌜ ((t : Table) → Lends t sizes (now (work .entry)) (now (period .entry)) (now (deadline .entry)) (now (priority .entry)) (now (higher .entry)) (now (residence .entry)) (now (memory .entry)) (now (exclusions .entry)) (now (co .entry)) (now (sender .entry)) (now (receiver .entry)) (now (loads .entry)) (now (amounts .entry))
         → Fits t s → Ledger (tasksIn t) places (now (list .entry)) count → Knows (tasksIn t) (now (known .entry)) → ChosenAs t listing places s p (now (list .entry)) count (now (list .exit)) r × Knows (tasksIn t) (now (known .exit))) ⌝ }
 {
+    let site = Site {
+        on: s.on[p],
+        left: s.left,
+        memory: s.memory[p],
+        load: s.load[p],
+        traffic: s.traffic,
+    };
     let mut set: u32 = 0;
     let mut listed = count;
     let mut rest = s.left;
@@ -144,7 +154,7 @@ fn candidates<'a>(
             loads,
             amounts,
             sizes,
-            s,
+            site,
             k,
             p,
             listing,

@@ -1,5 +1,5 @@
 -- The tests on the lent columns decide whether the open task k on processor p keeps the rules. Assumes nothing.
-use mathlib.Core.Path.{_≡_, refl, _∙_}
+use mathlib.Core.Path.{_≡_, refl, _∙_, ap}
 use mathlib.Core.Logic.{_≢_, _⊎_, inl, inr}
 use mathlib.Core.Bool.{Bool, true, false, not, _&&_, _||_}
 use mathlib.Core.List.{List}
@@ -22,13 +22,21 @@ use Rattle.rules.proofs.Where.{elsewhere-elim, elsewhere-intro}
 use Rattle.columns.specs.Columns.{loadsOf, amountsOf, excludedFrom, exclusionsOf}
 use Rattle.partial.specs.declared.State.{State}
 use Rattle.partial.specs.declared.Sizes.{Sizes}
-use Rattle.partial.specs.Partial.{Lent, Fits}
+use Rattle.partial.specs.Partial.{Lent, Fits, siteOf}
+use Rattle.partial.specs.declared.Site.{Site}
 use Rattle.partial.specs.Tests.{neither, suits, parted, between, SmallMessages, TrialOf}
 use Rattle.partial.proofs.OneMore as one
 
 -- the tasks on other processors than p, as the code finds them
 abbrev pub othersThan : Sizes → State → ℕ → ℕ
 othersThan sizes s p = neither (sizes .tasks) (s .left) (getD (s .on) p 0)
+
+-- the open tasks where a processor is looked at are those of the state
+pub left-at : (s : State) (p : ℕ) {site : Site} → site ≡ siteOf s p → site .left ≡ s .left
+left-at s p = ap (λ (x : Site). x .left)
+
+pub free-at : (s : State) (k p : ℕ) {site : Site} → site ≡ siteOf s p → T (has (site .left) k) → T (has (s .left) k)
+free-at s k p e = rw (left-at s p e) (λ u. u)
 
 -- the rules are kept with task k on p
 abbrev pub KeepsWith : Table → State → ℕ → ℕ → Type 0
@@ -115,7 +123,7 @@ module _ {t : Table} {sizes : Sizes} {residence memory exclusions co sender rece
       omega (arith, traffic-with, f .traffic, one.kept-le (t .capacity * t .hyperperiod) (traffic t (andTask (standing (s .on)) k p)) (keeps .network))
 
   -- what the task itself asks of p
-  pub keeps-suits : KeepsWith t s k p → T (suits residence memory exclusions loads s k p)
+  pub keeps-suits : KeepsWith t s k p → T (suits residence memory exclusions loads (siteOf s p) k p)
   unfolding suits
   keeps-suits keeps =
       let old = f .keeps in
@@ -128,7 +136,7 @@ module _ {t : Table} {sizes : Sizes} {residence memory exclusions co sender rece
       (not-T (meets (getD exclusions k 0) (getD (s .on) p 0)) (rw excluded-at (one.exclusion-needed t (e .sound) (standing (s .on)) old k p task on-table (getD (s .on) p 0) (λ j. refl) keeps))))
 
   -- tests that pass
-  pub tests-keep : T (suits residence memory exclusions loads s k p)
+  pub tests-keep : T (suits residence memory exclusions loads (siteOf s p) k p)
       → (T (parted co (sizes .groups) k (othersThan sizes s p)) → ⊥)
       → between sender receiver amounts (sizes .messages) k (othersThan sizes s p) ≤ s .traffic
       → KeepsWith t s k p
@@ -154,7 +162,7 @@ module _ {t : Table} {sizes : Sizes} {residence memory exclusions co sender rece
 
   -- ---- the answer, as the code comes to it
 
-  pub own-test-fails : {own : Bool} → own ≡ suits residence memory exclusions loads s k p → not own ≡ true → KeepsWith t s k p → ⊥
+  pub own-test-fails : {own : Bool} → own ≡ suits residence memory exclusions loads (siteOf s p) k p → not own ≡ true → KeepsWith t s k p → ⊥
   own-test-fails {own} a no-own keeps = rw (← a, not-true own no-own) at (keeps-suits keeps)
 
   module _ {others : ℕ} (o : others ≡ othersThan sizes s p) where
@@ -162,7 +170,7 @@ module _ {t : Table} {sizes : Sizes} {residence memory exclusions co sender rece
     group-parted b is-apart keeps = keeps-whole keeps (rw (← o, ← b, is-apart) tt)
 
     -- the last test decides
-    pub network-decides : {own apart : Bool} {added : ℕ} → own ≡ suits residence memory exclusions loads s k p → not own ≡ false → apart ≡ parted co (sizes .groups) k others → apart ≡ false
+    pub network-decides : {own apart : Bool} {added : ℕ} → own ≡ suits residence memory exclusions loads (siteOf s p) k p → not own ≡ false → apart ≡ parted co (sizes .groups) k others → apart ≡ false
         → added ≡ between sender receiver amounts (sizes .messages) k others → TrialOf t s k p (leb added (s .traffic)) added
     network-decides {own} {apart} {added} a is-own b not-apart d = go (leb added (s .traffic)) refl
       where

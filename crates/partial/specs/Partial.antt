@@ -14,6 +14,7 @@ use Rattle.rules.specs.Sets.{standing}
 use Rattle.columns.specs.Columns.{loadsOf, amountsOf, exclusionsOf}
 use Rattle.partial.specs.declared.State.{State}
 use Rattle.partial.specs.declared.Sizes.{Sizes}
+use Rattle.partial.specs.declared.Site.{Site}
 
 -- the table whose columns are lent to the search
 pub record Lent (t : Table) (sizes : Sizes) (residence memory exclusions co sender receiver loads amounts : List ℕ) : Type 0 where
@@ -54,6 +55,10 @@ pub record Fits (t : Table) (s : State) : Type 0 where
   pub load-long : length (s .load) ≡ 8
   pub load : (p : ℕ) → p < t .processors .count → getD (s .load) p 0 + loadOn t (standing (s .on)) p ≡ getD (t .processors .limit) p 0 * t .hyperperiod / 1000
   pub traffic : s .traffic + traffic t (standing (s .on)) ≡ t .capacity * t .hyperperiod
+
+-- processor p as a task finds it in a state
+abbrev pub siteOf : State → ℕ → Site
+siteOf s p = record { on = getD (s .on) p 0; left = s .left; memory = getD (s .memory) p 0; load = getD (s .load) p 0; traffic = s .traffic }
 
 -- the state with the open task k on processor p
 pub record Stepped (t : Table) (s : State) (k p : ℕ) (r : State) : Type 0 where

@@ -12,6 +12,7 @@ use Rattle.rules.specs.Placement.{andTask}
 use Rattle.rules.specs.Rules.{Keeps, traffic}
 use Rattle.rules.specs.Sets.{standing, meets}
 use Rattle.partial.specs.declared.State.{State}
+use Rattle.partial.specs.declared.Site.{Site}
 use Rattle.partial.specs.declared.Trial.{Trial}
 use Rattle.partial.specs.declared.Stepping.{Stepping}
 
@@ -20,10 +21,10 @@ unfoldable pub neither : ℕ → ℕ → ℕ → ℕ
 neither n a b = maskOf n (λ j. not (has b j || has a j))
 
 -- the task's processor, its memory and its load fit what p has left, and no task on p is excluded from it
-unfoldable pub suits : List ℕ → List ℕ → List ℕ → List ℕ → State → ℕ → ℕ → Bool
-suits residence memory exclusions loads s k p =
-    (has (getD residence k 0) p && leb (getD memory k 0) (getD (s .memory) p 0))
-    && (leb (getD loads k 0) (getD (s .load) p 0) && not (meets (getD exclusions k 0) (getD (s .on) p 0)))
+unfoldable pub suits : List ℕ → List ℕ → List ℕ → List ℕ → Site → ℕ → ℕ → Bool
+suits residence memory exclusions loads site k p =
+    (has (getD residence k 0) p && leb (getD memory k 0) (site .memory))
+    && (leb (getD loads k 0) (site .load) && not (meets (getD exclusions k 0) (site .on)))
 
 -- a co-residence group of task k has one of the others
 unfoldable pub parted : List ℕ → ℕ → ℕ → ℕ → Bool

@@ -10,7 +10,8 @@ ghost use Rattle.schedule.specs.Arrays.{Says};
 ghost use Rattle.rules.specs.Placement.{andTask};
 ghost use Rattle.rules.specs.Rules.{Keeps};
 ghost use Rattle.rules.specs.Sets.{standing};
-ghost use Rattle.partial.specs.Partial.{Lent, Whole, Fits, StepOf, Started, Names};
+ghost use Rattle.partial.specs.declared.State.{State};
+ghost use Rattle.partial.specs.Partial.{Lent, siteOf, Whole, Fits, StepOf, Started, Names};
 ghost use Rattle.partial.specs.Tests.{neither, suits, parted, joins, between, SmallMessages, TrialOf, Enough, stepAfter, processorOf};
 use table::Table;
 
@@ -28,6 +29,15 @@ pub struct State {
     pub left: u32,
     pub memory: [u64; 8],
     pub load: [u64; 8],
+    pub traffic: u64,
+}
+
+// A processor as a task finds it: the tasks on it, the open tasks, and what is left of its memory and load and of the network.
+pub struct Site {
+    pub on: u32,
+    pub left: u32,
+    pub memory: u64,
+    pub load: u64,
     pub traffic: u64,
 }
 
@@ -60,23 +70,23 @@ fn suits<'a>(
     memory: &'a [u32; 24],
     exclusions: &'a [u32; 24],
     loads: &'a [u64; 24],
-    s: State,
+    site: Site,
     k: usize,
     p: usize,
 ) -> bool
-    requires { ⌜ (k < 24) × (p < 8) ⌝ }
-    ensures { λ r. ⌜ r ≡ suits (now (residence .entry)) (now (memory .entry)) (now (exclusions .entry)) (now (loads .entry)) s k p ⌝ }
+    requires { ⌜ (k < 24) × (p < 32) ⌝ }
+    ensures { λ r. ⌜ r ≡ suits (now (residence .entry)) (now (memory .entry)) (now (exclusions .entry)) (now (loads .entry)) site k p ⌝ }
 {
     if !mask::has(residence[k], p) {
         return false;
     }
-    if s.memory[p] < wide(memory[k]) {
+    if site.memory < wide(memory[k]) {
         return false;
     }
-    if s.load[p] < loads[k] {
+    if site.load < loads[k] {
         return false;
     }
-    exclusions[k] & s.on[p] == 0
+    exclusions[k] & site.on == 0
 }
 
 // Whether a co-residence group of task k has one of the others.
@@ -157,25 +167,25 @@ fn attempt<'a>(
     loads: &'a [u64; 24],
     amounts: &'a [u64; 64],
     sizes: Sizes,
-    s: State,
+    site: Site,
     k: usize,
     p: usize,
 ) -> Trial
-    requires { ⌜ ((t : Table) × Lent t sizes (now residence) (now memory) (now exclusions) (now co) (now sender) (now receiver) (now loads) (now amounts) × Fits t s)
-        × T (has (s .left) k) × (p < sizes .processors) ⌝ }
-    ensures { λ r. ⌜ ((t : Table) → Lent t sizes (now (residence .entry)) (now (memory .entry)) (now (exclusions .entry)) (now (co .entry)) (now (sender .entry)) (now (receiver .entry)) (now (loads .entry)) (now (amounts .entry))
-        → Fits t s → TrialOf t s k p (r .allowed) (r .added)) ⌝ }
+    requires { ⌜ ((t : Table) × (s : State) × Lent t sizes (now residence) (now memory) (now exclusions) (now co) (now sender) (now receiver) (now loads) (now amounts) × Fits t s × (site ≡ siteOf s p))
+        × T (has (site .left) k) × (p < sizes .processors) ⌝ }
+    ensures { λ r. ⌜ ((t : Table) (s : State) → Lent t sizes (now (residence .entry)) (now (memory .entry)) (now (exclusions .entry)) (now (co .entry)) (now (sender .entry)) (now (receiver .entry)) (now (loads .entry)) (now (amounts .entry))
+        → Fits t s → site ≡ siteOf s p → TrialOf t s k p (r .allowed) (r .added)) ⌝ }
 {
-    if !suits(residence, memory, exclusions, loads, s, k, p) {
+    if !suits(residence, memory, exclusions, loads, site, k, p) {
         return REFUSED;
     }
-    let others = neither(sizes.tasks, s.left, s.on[p]);
+    let others = neither(sizes.tasks, site.left, site.on);
     if parted(co, sizes.groups, k, others) {
         return REFUSED;
     }
     let added = between(sender, receiver, amounts, sizes.messages, k, others);
     Trial {
-        allowed: added <= s.traffic,
+        allowed: added <= site.traffic,
         added,
     }
 }
@@ -191,14 +201,14 @@ pub fn allows<'a>(
     loads: &'a [u64; 24],
     amounts: &'a [u64; 64],
     sizes: Sizes,
-    s: State,
+    site: Site,
     k: usize,
     p: usize,
 ) -> bool
-    requires { ⌜ ((t : Table) × Lent t sizes (now residence) (now memory) (now exclusions) (now co) (now sender) (now receiver) (now loads) (now amounts) × Fits t s)
-        × T (has (s .left) k) × (p < sizes .processors) ⌝ }
-    ensures { λ r. ⌜ ((t : Table) → Lent t sizes (now (residence .entry)) (now (memory .entry)) (now (exclusions .entry)) (now (co .entry)) (now (sender .entry)) (now (receiver .entry)) (now (loads .entry)) (now (amounts .entry))
-        → Fits t s → Says r (Keeps t (andTask (standing (s .on)) k p))) ⌝ }
+    requires { ⌜ ((t : Table) × (s : State) × Lent t sizes (now residence) (now memory) (now exclusions) (now co) (now sender) (now receiver) (now loads) (now amounts) × Fits t s × (site ≡ siteOf s p))
+        × T (has (site .left) k) × (p < sizes .processors) ⌝ }
+    ensures { λ r. ⌜ ((t : Table) (s : State) → Lent t sizes (now (residence .entry)) (now (memory .entry)) (now (exclusions .entry)) (now (co .entry)) (now (sender .entry)) (now (receiver .entry)) (now (loads .entry)) (now (amounts .entry))
+        → Fits t s → site ≡ siteOf s p → Says r (Keeps t (andTask (standing (s .on)) k p))) ⌝ }
 {
     let trial = attempt(
         residence,
@@ -210,7 +220,7 @@ pub fn allows<'a>(
         loads,
         amounts,
         sizes,
-        s,
+        site,
         k,
         p,
     );
@@ -266,6 +276,13 @@ pub fn step<'a>(
     ensures { λ r. ⌜ ((t : Table) → Lent t sizes (now (residence .entry)) (now (memory .entry)) (now (exclusions .entry)) (now (co .entry)) (now (sender .entry)) (now (receiver .entry)) (now (loads .entry)) (now (amounts .entry))
         → Fits t s → StepOf t s k p (r .allowed) (r .next)) ⌝ }
 {
+    let site = Site {
+        on: s.on[p],
+        left: s.left,
+        memory: s.memory[p],
+        load: s.load[p],
+        traffic: s.traffic,
+    };
     let trial = attempt(
         residence,
         memory,
@@ -276,7 +293,7 @@ pub fn step<'a>(
         loads,
         amounts,
         sizes,
-        s,
+        site,
         k,
         p,
     );

@@ -21,4 +21,4 @@ allows-spec =
     tie.close
     (tie.spec
     (λ c κs. search needs)  -- attempt-requires
-    (λ c t e f. let a = c .before .args in let r = c .attempt .result in says t (a .s) (a .k) (a .p) (r .added) (r .allowed) (c .attempt .ensures t e f)))  -- returns
+    (λ c t s l f e. let a = c .before .args in let r = c .attempt .result in says t s (a .k) (a .p) (r .added) (r .allowed) (c .attempt .ensures t s l f e)))  -- returns

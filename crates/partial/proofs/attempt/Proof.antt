@@ -1,7 +1,7 @@
--- `attempt` meets its contract. Assumes nothing.
+-- The tests are those of the processor as the state has it. Assumes nothing.
 use native.Mathlib.Omega.{arith}
 use borrow.Author.Needs.{needs}
-use Rattle.partial.proofs.Deciding.{own-test-fails, group-parted, network-decides, bounds, carried}
+use Rattle.partial.proofs.Deciding.{free-at, own-test-fails, group-parted, network-decides, bounds, carried}
 use Rattle.partial.proofs.attempt.Statement.{statement}
 use Rattle.partial.proofs.attempt.Tie as tie
 
@@ -9,25 +9,33 @@ pub attempt-spec : {M : Type 1} → statement M
 attempt-spec =
     tie.close
     (tie.spec
-    (λ c κs. let b = bounds (c .pre .0 .1) (c .pre .0 .2) (c .args .k) (c .args .p) (c .pre .1) (c .pre .2) in (b .0, b .1))  -- suits-requires
+    (λ c κs. let z = c .pre .0 in let b = bounds (z .2) (z .3) (c .args .k) (c .args .p) (free-at (z .1) (c .args .k) (c .args .p) (z .4) (c .pre .1)) (c .pre .2) in (b .0, omega (arith, b .1)))  -- suits-requires
     (λ c.
     let a = c .before .before in
-    λ t e f. own-test-fails e f (a .args .k) (a .args .p) (a .pre .1) (a .pre .2) (c .before .suits .ensures) (c .if1 .taken))  -- returns
-    (λ c. search needs)  -- mul-neither
-    (λ c. search needs)  -- element-copy-out-neither
-    (λ c κs. search needs)  -- neither-requires
+    λ t s l f e. own-test-fails l f (a .args .k) (a .args .p) (free-at s (a .args .k) (a .args .p) e (a .pre .1)) (a .pre .2) (rw e at (c .before .suits .ensures)) (c .if1 .taken))  -- returns
     (λ c κs.
-    let a = c .before .before .before .before in
-    let b = bounds (a .pre .0 .1) (a .pre .0 .2) (a .args .k) (a .args .p) (a .pre .1) (a .pre .2) in
+    let a = c .before .before in
+    let z = a .pre .0 in
+    bounds (z .2) (z .3) (a .args .k) (a .args .p) (free-at (z .1) (a .args .k) (a .args .p) (z .4) (a .pre .1)) (a .pre .2) .2)  -- neither-requires
+    (λ c κs.
+    let a = c .before .before .before in
+    let z = a .pre .0 in
+    let b = bounds (z .2) (z .3) (a .args .k) (a .args .p) (free-at (z .1) (a .args .k) (a .args .p) (z .4) (a .pre .1)) (a .pre .2) in
     (b .3, omega (arith, b .0)))  -- parted-requires
     (λ c.
     let h = c .before .before in
-    let a = h .before .before .before .before in
-    λ t e f. group-parted e f (a .args .k) (a .args .p) (a .pre .1) (a .pre .2) (h .neither .ensures) (c .before .parted .ensures) (c .if2 .taken))  -- returns-2
-    (λ c κs. let a = c .before .before .before .before .before .before in carried (a .pre .0 .1) (a .pre .0 .2) (a .args .k) (a .args .p) (a .pre .1) (a .pre .2))  -- between-requires
+    let a = h .before .before .before in
+    λ t s l f e. group-parted l f (a .args .k) (a .args .p) (free-at s (a .args .k) (a .args .p) e (a .pre .1)) (a .pre .2) (rw e at (h .neither .ensures)) (c .before .parted .ensures) (c .if2 .taken))  -- returns-2
+    (λ c κs.
+    let a = c .before .before .before .before .before in
+    let z = a .pre .0 in
+    carried (z .2) (z .3) (a .args .k) (a .args .p) (free-at (z .1) (a .args .k) (a .args .p) (z .4) (a .pre .1)) (a .pre .2))  -- between-requires
     (λ c.
-    let d = c .before .before in
+    let b = c .before in
+    let d = b .before .before in
     let h = d .before in
-    let g = h .before .before in
+    let g = h .before in
     let a = g .before .before in
-    λ t e f. network-decides e f (a .args .k) (a .args .p) (a .pre .1) (a .pre .2) (h .neither .ensures) (g .before .suits .ensures) (g .if1 .left) (d .parted .ensures) (c .before .if2 .left) (c .between .ensures)))  -- returns-3
+    λ t s l f e.
+    rw e
+    (network-decides l f (a .args .k) (a .args .p) (free-at s (a .args .k) (a .args .p) e (a .pre .1)) (a .pre .2) (rw e at (h .neither .ensures)) (rw e at (g .before .suits .ensures)) (g .if1 .left) (d .parted .ensures) (b .before .if2 .left) (b .between .ensures))))  -- returns-3

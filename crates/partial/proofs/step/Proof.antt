@@ -1,4 +1,5 @@
 -- `step` meets its contract. Assumes nothing.
+use mathlib.Core.Path.{refl}
 use Prim.Native.Nat.{_<_}
 use native.Mathlib.Omega.{arith}
 use borrow.Author.Needs.{needs}
@@ -14,20 +15,26 @@ pub step-spec : {M : Type 1} → statement M
 step-spec =
     tie.close
     (tie.spec
-    (λ c κs. search needs)  -- attempt-requires
-    (λ c. record { fits = omega (arith, below (c .before)) })  -- mul-follow
-    (λ c. below (c .before) .0)  -- element-copy-out-follow
-    (λ c. record { fits = omega (arith, below (c .before .before)) })  -- mul-follow-2
-    (λ c. below (c .before .before) .0)  -- element-copy-out-follow-2
+    (λ c. search needs)  -- mul-follow
+    (λ c. below c .1)  -- element-copy-out-follow
+    (λ c. search needs)  -- mul-t21
+    (λ c. below (c .before) .1)  -- element-copy-out-t24
+    (λ c. search needs)  -- mul-t25
+    (λ c. below (c .before .before) .1)  -- element-copy-out-t28
+    (λ c κs. let a = c .before .before .before in ((a .pre .0 .0, _, a .pre .0 .1, a .pre .0 .2, refl), a .pre .1, a .pre .2))  -- attempt-requires
+    (λ c. record { fits = omega (arith, below (c .before .before .before .before)) })  -- mul-follow-2
+    (λ c. below (c .before .before .before .before) .0)  -- element-copy-out-follow-2
+    (λ c. record { fits = omega (arith, below (c .before .before .before .before .before)) })  -- mul-follow-3
+    (λ c. below (c .before .before .before .before .before) .0)  -- element-copy-out-follow-3
     (λ c κs.
     let h = c .before .before in
-    let a = h .before in
+    let a = h .before .before .before .before in
     let p = a .pre in
     let r = h .attempt .result in
     let b = below a in
-    (omega (arith, b .0), b .1, trial-enough (p .0 .1) (p .0 .2) (a .args .k) (a .args .p) (p .1) (p .2) (r .allowed) (r .added) (h .attempt .ensures (p .0 .0) (p .0 .1) (p .0 .2))))  -- follow-requires
+    (omega (arith, b .0), b .1, trial-enough (p .0 .1) (p .0 .2) (a .args .k) (a .args .p) (p .1) (p .2) (r .allowed) (r .added) (h .attempt .ensures (p .0 .0) _ (p .0 .1) (p .0 .2) refl)))  -- follow-requires
     (λ c t e f.
     let h = c .before .before .before in
-    let a = h .before in
+    let a = h .before .before .before .before in
     let r = h .attempt .result in
-    rw (c .follow .ensures) (trial-step e f (a .args .k) (a .args .p) (a .pre .1) (a .pre .2) (r .allowed) (r .added) (h .attempt .ensures t e f))))  -- returns
+    rw (c .follow .ensures) (trial-step e f (a .args .k) (a .args .p) (a .pre .1) (a .pre .2) (r .allowed) (r .added) (h .attempt .ensures t _ e f refl))))  -- returns
