@@ -6,19 +6,19 @@ use mathlib.Core.List.{List, [], _∷_, _++_, append-assoc, append-nil}
 use Prim.Native.Nat.{ℕ, zero, suc, _+_, _-_, _*_, _^_, _≤_, _<_}
 use native.Mathlib.Omega.{arith}
 use lib.Dec.{T, ltb, ltb→lt, lt→ltb}
-use lib.ListN.{length, getD, take, drop, length-append, length-drop, length-replicate}
+use lib.ListN.{length, getD, take, drop, length-append, length-drop}
 use lib.Seq.{length-take-le, take-at, drop-at, drop-drop}
 use borrow.Rule.Slice.PartMut.{midOf, putMid}
 use Rattle.finite.specs.Finite.{someBelow, firstBelow}
-use Rattle.finite.proofs.Some.{some-intro, some-elim, some-ext}
+use Rattle.finite.proofs.Some.{some-intro, some-elim}
 use Rattle.finite.proofs.Search.{FirstBelow, first-below, lowest, nowhere}
 use Rattle.mask.specs.Mask.{Subset, within}
 use Rattle.mask.proofs.Tests.{same-test}
-use Rattle.mask.proofs.Laws.{subset-within, within-subset}
+use Rattle.mask.proofs.Laws.{within-subset}
 use Rattle.wire.specs.Wire.{number, recordBytes}
 use Rattle.wire.proofs.Laws.{number-at, number-behind, record-length}
 use Rattle.wire.proofs.Part.{over}
-use Rattle.answer.specs.Answer.{foundHead, noneHead, conflictBytes, records, endBytes, countOf, answerBytes, laid, maskAt, coveredBy, Listing}
+use Rattle.answer.specs.Answer.{conflictBytes, records, endBytes, countOf, answerBytes, laid, maskAt, coveredBy, Listing}
 
 -- ---- the sets that a list covers
 
@@ -42,20 +42,11 @@ covered-some [] set = refl
 covered-some (c ∷ cs) set =
     ap (λ (b : Bool). within c set || b) (covered-some cs set) ∙ sym (some-front (length cs) (λ j. within (getD (c ∷ cs) j 0) set))
 
--- an element that is a subset covers, and where a set is covered some element is a subset
-pub covered-intro : (cs : List ℕ) (set j : ℕ) → j < length cs → Subset (getD cs j 0) set → T (coveredBy cs set)
-covered-intro cs set j l s =
-    rw (covered-some cs set) (some-intro (length cs) (λ i. within (getD cs i 0) set) j l (subset-within (getD cs j 0) set s))
-
+-- where a set is covered some element is a subset
 pub covered-elim : (cs : List ℕ) (set : ℕ) → T (coveredBy cs set) → (j : ℕ) × (j < length cs) × Subset (getD cs j 0) set
 covered-elim cs set t =
     let r = some-elim (length cs) (λ i. within (getD cs i 0) set) (rw (covered-some cs set) at t) in
     (r .0, r .1, within-subset (getD cs (r .0) 0) set (r .2))
-
-pub covered-mono : (cs : List ℕ) (s s′ : ℕ) → Subset s s′ → T (coveredBy cs s) → T (coveredBy cs s′)
-covered-mono cs s s′ sub t =
-    let r = covered-elim cs s t in
-    covered-intro cs s′ (r .0) (r .1) (λ k h. sub k (r .2 k h))
 
 pub covered-append : (cs ds : List ℕ) (set : ℕ) → coveredBy (cs ++ ds) set ≡ (coveredBy cs set || coveredBy ds set)
 unfolding coveredBy
@@ -105,11 +96,6 @@ pub laid-part : (at : ℕ) (old new part : List ℕ) (k : ℕ) → length new �
 unfolding laid
 laid-part at old new part k q e = over at old new part k e ∙ ap (λ (w : ℕ). take at old ++ (new ++ drop (at + w) old)) (sym q)
 
--- nothing is listed
-pub listing-start : (old : List ℕ) → 3 ≤ length old → Listing old [] old
-unfolding records
-listing-start old h = record { holds = refl; room = h; words = λ j. omega arith }
-
 module _ {old cs list : List ℕ} (w : Listing old cs list) where
   pub listing-length : length list ≡ length old
   listing-length = ap length (w .holds) ∙ simp (length-append, length-drop) (omega (arith, records-length cs, w .room))
@@ -145,26 +131,12 @@ module _ {old cs list : List ℕ} (w : Listing old cs list) where
         words = words-snoc cs m (w .words) b;
       }
 
-  -- whether a set is covered
-  pub listing-covered : {k : ℕ} → k ≡ length cs → (set : ℕ) → someBelow k (λ j. within (maskAt list j) set) ≡ coveredBy cs set
-  listing-covered {k} q set =
-      ap (λ (n : ℕ). someBelow n (λ j. within (maskAt list j) set)) q
-      ∙ some-ext (length cs) (λ j. within (maskAt list j) set) (λ j. within (getD cs j 0) set) (λ j l.
-      ap (λ (c : ℕ). within c set) (ap (λ (s : List ℕ). maskAt s j) (w .holds) ∙ mask-at cs (drop (6 * length cs) old) (w .words) j l))
-      ∙ sym (covered-some cs set)
-
   -- the end behind the list
   pub listing-end : {k : ℕ} {list′ : List ℕ} → k ≡ length cs → (complete : Bool) → list′ ≡ laid (6 * k) (endBytes complete) list
       → list′ ≡ records cs ++ endBytes complete ++ drop (6 * length cs + 3) old
   listing-end q complete e = e ∙ behind (endBytes complete) q ∙ sym (append-assoc (records cs) (endBytes complete) (drop (6 * length cs + 3) old))
 
 -- ---- the whole buffer
-
-pub found-length : {n : ℕ} (processors : List ℕ) → length processors ≡ n → length (foundHead processors) ≡ n + 2
-found-length processors e = omega arith
-
-pub none-length : (n : ℕ) → length (noneHead n) ≡ n + 2
-none-length n = omega (arith, length-replicate {A = ℕ} n 255)
 
 -- the head, and what a list and its end leave behind it
 module _ (n : ℕ) (head old : List ℕ) {cs list list′ : List ℕ} {k : ℕ} (complete : Bool) (q : k ≡ length cs) (e : list′ ≡ laid (6 * k) (endBytes complete) list) where
@@ -176,14 +148,6 @@ module _ (n : ℕ) (head old : List ℕ) {cs list list′ : List ℕ} {k : ℕ} 
       rw (listing-end w q complete e, later, count)
       (sym (append-assoc head (records cs ++ endBytes complete) (drop (countOf n (length cs)) old))
       ∙ ap (λ (l : List ℕ). l ++ drop (countOf n (length cs)) old) (sym (append-assoc head (records cs) (endBytes complete))))
-
-  -- the head is put first, and then the part after it is lent
-  pub whole-first : (buffer : List ℕ) → length head ≡ n + 2 → buffer ≡ head ++ drop (n + 2) old → Listing (drop (n + 2) buffer) cs list
-      → take (n + 2) buffer ++ list′ ≡ answerBytes n head cs complete old
-  whole-first buffer h b w =
-      let part : drop (n + 2) buffer ≡ drop (n + 2) old = ap (drop (n + 2)) b ∙ drop-at head (drop (n + 2) old) (n + 2) h in
-      let front : take (n + 2) buffer ≡ head = ap (take (n + 2)) b ∙ take-at head (drop (n + 2) old) (n + 2) h in
-      rw front (whole (rw part at w))
 
   -- the part after the head is lent, and the head is put last
   pub whole-last : (buffer : List ℕ) → n + 2 ≤ length buffer → Listing (drop (n + 2) old) cs list

@@ -1,27 +1,25 @@
--- What the columns hold at each place: their values, lengths and bounds; and which tasks are kept apart. Assumes nothing.
+-- What the columns hold at each place: their values and bounds; and which tasks are kept apart. Assumes nothing.
 use mathlib.Core.Path.{_≡_}
 use mathlib.Core.Logic.{_≢_}
 use mathlib.Core.Bool.{Bool, not, _&&_}
 use mathlib.Core.List.{List}
 use Prim.Native.Nat.{ℕ, _*_, _/_, _^_, _≤_, _<_}
-use native.Mathlib.Nat.{lt-of-lt-of-le}
 use native.Mathlib.Omega.{arith}
 use native.Mathlib.Decide.{decLt}
-use borrow.Author.Tests.{lt-ltb, eq-eqb, ne-eqb}
+use borrow.Author.Tests.{eq-eqb}
 use lib.Dec.{T, eqb, ltb, ltb→lt}
-use lib.ListN.{length, getD}
-use lib.Pow.{pow-mono}
+use lib.ListN.{getD}
 use Rattle.finite.specs.Finite.{someBelow}
-use Rattle.finite.proofs.Some.{some-intro, some-elim}
+use Rattle.finite.proofs.Some.{some-elim}
 use Rattle.mask.specs.Mask.{has}
-use Rattle.mask.proofs.Tests.{and-both, and-left, and-right}
+use Rattle.mask.proofs.Tests.{and-left, and-right}
 use Rattle.mask.proofs.Laws.{has-mask, mask-lt}
 use Rattle.table.specs.declared.Table.{Table}
 use Rattle.table.specs.Table.{column}
 use Rattle.table.specs.Sound.{Sound}
-use Rattle.table.proofs.Columns.{column-in, column-beyond, column-length}
+use Rattle.table.proofs.Columns.{column-in, column-beyond}
 use Rattle.rules.specs.Rules.{amountOf}
-use Rattle.rules.proofs.Bounds.{work-le, amount-bound}
+use Rattle.rules.proofs.Bounds.{amount-bound}
 use Rattle.columns.specs.Columns.{loadsOf, amountsOf, excludedFrom, exclusionsOf}
 
 -- what holds of 0 and of each number holds at every place of their column
@@ -31,21 +29,6 @@ column-all p n f P few none h j = go (decLt j n)
     go : Dec (j < n) → P (getD (column p n f) j 0)
     go (yes l) = rw (column-in p n f j few l) (h j l)
     go (no l) = rw (column-beyond p n f j (omega arith)) none
-
--- ---- lengths
-
-module _ (t : Table) where
-  pub loads-length : length (loadsOf t) ≡ 24
-  unfolding loadsOf
-  loads-length = column-length 24 (t .tasks .count) _
-
-  pub amounts-length : length (amountsOf t) ≡ 64
-  unfolding amountsOf
-  amounts-length = column-length 64 (t .messages .count) (amountOf t)
-
-  pub exclusions-length : length (exclusionsOf t) ≡ 24
-  unfolding exclusionsOf
-  exclusions-length = column-length 24 (t .tasks .count) (excludedFrom t)
 
 -- ---- the tasks that are kept apart from task k
 
@@ -73,11 +56,6 @@ module _ (t : Table) (k : ℕ) where
   unfolding excludedFrom
   excluded-below = mask-lt (t .tasks .count) kept-apart
 
-  pub excluded-in : (j g : ℕ) → j < t .tasks .count → j ≢ k → g < t .ex .count → T (has (getD (t .ex .mask) g 0) k) → T (has (getD (t .ex .mask) g 0) j) → T (has (excludedFrom t k) j)
-  excluded-in j g l d m x y =
-      rw (excluded-test j, lt-ltb j (t .tasks .count) l, ne-eqb j k d)
-      (some-intro (t .ex .count) _ g m (and-both (has (getD (t .ex .mask) g 0) k) (has (getD (t .ex .mask) g 0) j) x y))
-
   pub excluded-out : (j : ℕ) → T (has (excludedFrom t k) j) → (j < t .tasks .count) × (j ≢ k) × (g : ℕ) × (g < t .ex .count) × T (has (getD (t .ex .mask) g 0) k) × T (has (getD (t .ex .mask) g 0) j)
   excluded-out j u =
       let low = ltb j (t .tasks .count) in
@@ -102,16 +80,6 @@ module _ (t : Table) (s : Sound t) where
   unfolding exclusionsOf
   exclusions-get k l = column-in 24 (t .tasks .count) (excludedFrom t) k (s .tasks .most) l
 
-  pub loads-bound : (k : ℕ) → getD (loadsOf t) k 0 ≤ t .hyperperiod
-  unfolding loadsOf
-  loads-bound =
-      column-all 24 (t .tasks .count) _ (λ v. v ≤ t .hyperperiod) (s .tasks .most) (omega arith)
-      (λ k l. work-le (getD (t .tasks .c) k 0) (getD (t .tasks .t) k 0) (t .hyperperiod) (omega (arith, s .tasks .c-d k l, s .tasks .d-t k l)))
-
   pub amounts-bound : (j : ℕ) → getD (amountsOf t) j 0 ≤ 1000000000000000
   unfolding amountsOf
   amounts-bound = column-all 64 (t .messages .count) (amountOf t) (λ v. v ≤ 1000000000000000) (s .messages .most) (omega arith) (λ j l. amount-bound t s j l .1)
-
-  pub exclusions-bound : (k : ℕ) → getD (exclusionsOf t) k 0 < 2 ^ 24
-  unfolding exclusionsOf
-  exclusions-bound = column-all 24 (t .tasks .count) (excludedFrom t) (λ v. v < 2 ^ 24) (s .tasks .most) (omega arith) (λ k l. lt-of-lt-of-le (excluded-below t k) (pow-mono (s .tasks .most)))

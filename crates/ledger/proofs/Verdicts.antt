@@ -38,7 +38,3 @@ module _ {s : Tasks} (valid : Valid s) (short : Constrained s) where
 
     pub clear-uncovered : {x : ℕ → Bool} → (LateSet s x → ⊥) → Covered list count x → ⊥
     clear-uncovered f h = f (covered-late h)
-
-    pub bad-late : (listing : Bool) (x : ℕ → Bool) → Bad s listing list count x → LateSet s x
-    bad-late false x h = h
-    bad-late true x h = covered-late h

@@ -3,33 +3,7 @@ use mathlib.Core.Path.{_≡_, refl, sym, ap, ap₂, subst, subst₂, _∙_}
 use mathlib.Core.Logic.{_⊎_, inl, inr}
 use mathlib.Core.Bool.{Bool}
 use Prim.Native.Nat.{ℕ, zero, suc, _+_, _*_, _%_, _/_, _≤_, _<_, _∣_}
-use native.Mathlib.Nat.{
-  mul-comm,
-  mul-assoc,
-  mul-add,
-  mul-pos,
-  mul-le-mul-left,
-  mod-lt,
-  mod-add-div,
-  eq-zero-or-pos,
-  not-suc-le-zero,
-  mul-div-cancel',
-  div-mul-cancel,
-  le-of-dvd,
-  one-dvd,
-  pos-of-dvd-of-pos,
-  dvd-trans,
-  dvd-antisymm,
-  dvd-mul-left,
-  dvd-mul-right,
-  dvd-mul-right-of-dvd,
-  dvd-add-iff-left,
-  dvd-of-mod-eq-zero,
-  mod-eq-zero-of-dvd,
-  dvd-of-mul-dvd-mul-left,
-  dvd-of-mul-dvd-mul-right,
-  mul-dvd-mul-left,
-}
+use native.Mathlib.Nat.{mul-comm, mul-assoc, mul-add, mul-pos, mod-lt, mod-add-div, eq-zero-or-pos, not-suc-le-zero, mul-div-cancel', div-mul-cancel, le-of-dvd, one-dvd, pos-of-dvd-of-pos, dvd-trans, dvd-antisymm, dvd-mul-left, dvd-mul-right, dvd-mul-right-of-dvd, dvd-add-iff-left, dvd-of-mod-eq-zero, mod-eq-zero-of-dvd, dvd-of-mul-dvd-mul-left, dvd-of-mul-dvd-mul-right, mul-dvd-mul-left}
 use native.Mathlib.Omega.{arith}
 use native.Mathlib.Decide.{ℕ-discrete}
 use lib.Dec.{T, eqb, eqb→eq}
@@ -99,10 +73,6 @@ lcm-least a b p m h k =
 pub lcm-pos : (a b : ℕ) → 0 < a → 0 < b → 0 < lcm a b
 unfolding lcm
 lcm-pos a b p q = mul-pos p (times-is a b q .pos)
-
-pub lcm-le : (a b : ℕ) → 0 < b → lcm a b ≤ a * b
-unfolding lcm
-lcm-le a b p = mul-le-mul-left a (times-is a b p .small)
 
 -- Euclid's way: with k the times in lcm a b, k and b / g divide each other
 pub lcm-gcd : (a b g : ℕ) → 0 < b → Gcd a b g → a * (b / g) ≡ lcm a b

@@ -3,12 +3,12 @@ use mathlib.Core.Path.{_≡_, refl, sym, ap, _∙_}
 use mathlib.Core.Bool.{Bool, true, false, _&&_}
 use mathlib.Core.List.{List, [], _∷_, _++_}
 use Prim.Native.Nat.{ℕ, zero, suc, _+_, _*_, _/_, _%_, _^_, _≤_, _<_}
-use native.Mathlib.Nat.{pow-suc, pow-succ', pow-zero, one-le-pow, div-lt-iff-lt-mul, div-add-mod, div-div-eq-div-mul, zero-add, add-zero, suc-add, add-suc, add-assoc, mul-assoc}
+use native.Mathlib.Nat.{pow-suc, pow-succ', pow-zero, one-le-pow, div-lt-iff-lt-mul, div-add-mod, div-div-eq-div-mul, zero-add, add-zero, suc-add, add-suc, mul-assoc}
 use native.Mathlib.Omega.{arith}
 use borrow.Author.Tests.{eqb-true, eq-eqb}
 use lib.Dec.{eqb}
-use lib.ListN.{length, getD, take, drop, length-drop, List·getD-append}
-use lib.Seq.{length-take-le, take-at, drop-at, take-append-le, drop-append-le, drop-append-add, drop-drop, getD-drop, getD-append-seam, getD-append-add, getD-take, take-nil}
+use lib.ListN.{length, getD, take, drop, length-drop}
+use lib.Seq.{length-take-le, take-at, drop-at, take-append-le, drop-append-le, drop-append-add, getD-drop, getD-append-seam, getD-append-add, getD-take, take-nil}
 use Rattle.wire.specs.Wire.{little, number, bytes, Bytes, markAt, recordBytes}
 
 -- a list of bytes, in part
@@ -66,10 +66,6 @@ bytes-number s at w h l =
 
 -- where a number stands
 
-pub number-drop : (s : List ℕ) (k at w : ℕ) → number (drop k s) at w ≡ number s (k + at) w
-unfolding number
-number-drop s k at w = ap (λ (l : List ℕ). little (take w l)) (drop-drop at k s)
-
 pub number-append : (s t : List ℕ) (at w : ℕ) → at + w ≤ length s → number (s ++ t) at w ≡ number s at w
 unfolding number
 number-append s t at w l =
@@ -85,10 +81,6 @@ number-behind p s n at w e = rw (← e, drop-append-add)
 pub number-here : (q : List ℕ) (w v : ℕ) → v < 256 ^ w → number (bytes w v ++ q) 0 w ≡ v
 unfolding number
 number-here q w v h = ap little (take-at (bytes w v) q w (bytes-length w v)) ∙ little-bytes w v h
-
--- a field behind the first of fields
-pub number-past : (q : List ℕ) (u v at w : ℕ) → number (bytes u v ++ q) (u + at) w ≡ number q at w
-number-past q u v at w = number-behind (bytes u v) q u at w (bytes-length u v)
 
 pub number-at : (p q : List ℕ) (w v at : ℕ) → length p ≡ at → v < 256 ^ w → number (p ++ (bytes w v ++ q)) at w ≡ v
 unfolding number
@@ -128,11 +120,6 @@ number-one s at = omega (arith, number-suc s at 0, number-zero s (suc at))
 pub number-two : (s : List ℕ) (at : ℕ) → number s at 2 ≡ getD s at 0 + getD s (at + 1) 0 * 256
 number-two s at = omega (arith, number-add s at 1 1, number-one s at, number-one s (at + 1))
 
-pub number-four : (s : List ℕ) (at : ℕ)
-    → number s at 4 ≡ getD s at 0 + getD s (at + 1) 0 * 256 + getD s (at + 2) 0 * 65536 + getD s (at + 3) 0 * 16777216
-number-four s at =
-    omega (arith, number-add s at 2 2, number-two s at, number-two s (at + 2), ap (λ (k : ℕ). getD s k 0) (add-assoc at 2 1))
-
 -- the bytes of a number of four
 pub bytes-four : (v : ℕ) → bytes 4 v ≡ v % 256 ∷ v / 256 % 256 ∷ v / 65536 % 256 ∷ v / 16777216 % 256 ∷ []
 unfolding bytes
@@ -162,19 +149,6 @@ mark-found s at a b e l =
 pub mark-stands : (p q : List ℕ) (a b : ℕ) → markAt (p ++ (a ∷ b ∷ q)) (length p) (a ∷ b ∷ []) ≡ true
 unfolding markAt
 mark-stands p q a b = simp (getD-append-seam, getD-append-add, eq-eqb a a refl, eq-eqb b b refl)
-
-pub mark-drop : (s : List ℕ) (k at : ℕ) (m : List ℕ) → markAt (drop k s) at m ≡ markAt s (k + at) m
-unfolding markAt
-mark-drop s k at m = simp (getD-drop, add-assoc)
-
-pub mark-append : (s t : List ℕ) (at : ℕ) (m : List ℕ) → at + 2 ≤ length s → markAt (s ++ t) at m ≡ markAt s at m
-unfolding markAt
-mark-append s t at m l = simp (List·getD-append s t 0 at (omega arith), List·getD-append s t 0 (at + 1) (omega arith))
-
--- behind a prefix of n bytes
-pub mark-behind : (p s : List ℕ) (n at : ℕ) (m : List ℕ) → length p ≡ n → markAt (p ++ s) (n + at) m ≡ markAt s at m
-unfolding markAt
-mark-behind p s n at m e = simp (← e, add-assoc, getD-append-add)
 
 pub record-length : (m : List ℕ) (v : ℕ) → length (recordBytes m v) ≡ 6
 unfolding recordBytes
