@@ -1,8 +1,7 @@
 // Which open task the search places next. No answer rests on the choice: it decides only how long the search takes.
-ghost use mathlib.Core.Path.{_≡_};
-ghost use Prim.Native.Nat.{_+_, _*_, _<_, _≤_};
+ghost use Prim.Native.Nat.{_*_, _<_, _≤_};
 ghost use lib.Dec.{T};
-ghost use lib.ListN.{length, getD, set};
+ghost use lib.ListN.{length};
 ghost use Rattle.mask.specs.Mask.{has};
 ghost use Rattle.table.specs.declared.Table.{Table};
 ghost use Rattle.schedule.specs.Arrays.{tasksOf, InLimits};
@@ -10,7 +9,6 @@ ghost use Rattle.conflict.specs.Entry.{tasksIn};
 ghost use Rattle.known.specs.Known.{Knows};
 ghost use Rattle.partial.specs.Partial.{Fits};
 ghost use Rattle.region.specs.Lends.{Lends};
-ghost use Rattle.branching.specs.Notes.{heavier};
 use partial::Site;
 use partial::Sizes;
 use partial::State;
@@ -22,41 +20,13 @@ fn wide(x: u32) -> u64
     x as u64
 }
 
-// A failure weight after one failure more. It stays where it has grown large.
-fn heavier(weight: u32) -> u32
-    ensures { λ r. ⌜ r ≡ heavier weight ⌝ }
-{
-    if 4000000000 <= weight {
-        return weight;
-    }
-    weight + 16
-}
-
-// The failure weight of task k grows: no processor could take it.
-pub fn blame(notes: &mut [u32], k: usize)
-    requires { ⌜ k < length (now notes) ⌝ }
-    ensures { λ _. ⌜ now (notes .exit) ≡ set (now (notes .entry)) k (heavier (getD (now (notes .entry)) k 0)) ⌝ }
-{
-    notes[k] = heavier(notes[k]);
-}
-
-// A pseudo-random number below 128: the high bits of a linear congruential generator.
-pub fn noise(notes: &mut [u32]) -> u64
-    requires { ⌜ 64 ≤ length (now notes) ⌝ }
-    ensures { λ r. ⌜ r < 128 ⌝ }
-{
-    let next = (wide(notes[24]) * 1103515245 + 12345) % 2147483648;
-    notes[24] = next as u32;
-    next / 16777216
-}
-
 // The lower, the sooner task k is placed: few choices, which count squared, and a large weight; and a little noise, so that a restart chooses anew.
 fn score(base: u32, choices: u64, k: usize, notes: &mut [u32]) -> u64
     requires { ⌜ (choices ≤ 8) × (k < 24) × (64 ≤ length (now notes)) ⌝ }
 {
     let weight = wide(base) + wide(notes[k]) + 1;
     let plain = choices * choices * 67108864 / weight;
-    plain + plain / 1024 * noise(notes) / 10
+    plain + plain / 1024 * notes::noise(notes) / 10
 }
 
 // Whether the search would pass over a set: it is late; or, with a full list of conflicts, it holds one of them.
@@ -213,7 +183,7 @@ pub fn pick<'a>(
             known,
         );
         if found == 0 {
-            blame(notes, k);
+            notes::blame(notes, k);
             return k;
         }
         let value = score(guide[96 + k], found, k, notes);

@@ -54,7 +54,7 @@ fn offset(m: usize, notes: &mut [u32]) -> usize
     requires { ⌜ (0 < m) × (64 ≤ length (now notes)) ⌝ }
     ensures { λ r. ⌜ r < m ⌝ }
 {
-    branching::noise(notes) as usize % m
+    notes::noise(notes) as usize % m
 }
 
 // The processor that is i places after the first, around all m.
@@ -388,7 +388,7 @@ pub fn seek<'a>(
         at = sought.count;
         i += 1;
     }
-    branching::blame(notes, k);
+    notes::blame(notes, k);
     Sought {
         found: false,
         none: true,

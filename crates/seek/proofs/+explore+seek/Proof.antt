@@ -20,7 +20,7 @@ use Rattle.seek.proofs.+explore+seek.Lts-explore as explore-lts
 use Rattle.seek.proofs.seek.Reads as seek
 use Rattle.seek.proofs.seek.Kinds as seek-kinds
 use Rattle.seek.proofs.+explore+seek.Lts-seek as seek-lts
-use Rattle.branching.proofs.blame.Reads as blame-reads
+use Rattle.notes.proofs.blame.Reads as blame-reads
 use Rattle.seek.proofs.offset.Reads as offset-reads
 use Rattle.branching.proofs.pick.Reads as pick-reads
 use Rattle.bound.proofs.bound.Reads as bound-reads

@@ -3,8 +3,8 @@ use mathlib.Core.Path.{refl}
 use native.Mathlib.Omega.{arith}
 use borrow.Author.Tests.{le-leb, lt-leb}
 use borrow.Author.Needs.{needs}
-use Rattle.branching.proofs.heavier.Statement.{statement}
-use Rattle.branching.proofs.heavier.Tie as tie
+use Rattle.notes.proofs.heavier.Statement.{statement}
+use Rattle.notes.proofs.heavier.Tie as tie
 
 pub heavier-spec : {M : Type 1} → statement M
 heavier-spec =

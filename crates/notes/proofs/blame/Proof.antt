@@ -3,8 +3,8 @@ use mathlib.Core.Path.{ap}
 use Prim.Native.Nat.{ℕ}
 use borrow.Author.Needs.{needs}
 use lib.ListN.{set}
-use Rattle.branching.proofs.blame.Statement.{statement}
-use Rattle.branching.proofs.blame.Tie as tie
+use Rattle.notes.proofs.blame.Statement.{statement}
+use Rattle.notes.proofs.blame.Tie as tie
 
 pub blame-spec : {M : Type 1} → statement M
 blame-spec =

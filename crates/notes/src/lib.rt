@@ -1,0 +1,40 @@
+// What the search notes on its way: failure weights and the state of its random numbers. No answer rests on them.
+ghost use mathlib.Core.Path.{_≡_};
+ghost use Prim.Native.Nat.{_<_, _≤_};
+ghost use lib.ListN.{length, getD, set};
+ghost use Rattle.notes.specs.Notes.{heavier};
+
+// x as a wider number.
+fn wide(x: u32) -> u64
+    ensures { λ r. ⌜ r < 4294967296 ⌝ }
+{
+    x as u64
+}
+
+// A failure weight after one failure more. It stays where it has grown large.
+fn heavier(weight: u32) -> u32
+    ensures { λ r. ⌜ r ≡ heavier weight ⌝ }
+{
+    if 4000000000 <= weight {
+        return weight;
+    }
+    weight + 16
+}
+
+// The failure weight of task k grows: no processor could take it.
+pub fn blame(notes: &mut [u32], k: usize)
+    requires { ⌜ k < length (now notes) ⌝ }
+    ensures { λ _. ⌜ now (notes .exit) ≡ set (now (notes .entry)) k (heavier (getD (now (notes .entry)) k 0)) ⌝ }
+{
+    notes[k] = heavier(notes[k]);
+}
+
+// A pseudo-random number below 128: the high bits of a linear congruential generator.
+pub fn noise(notes: &mut [u32]) -> u64
+    requires { ⌜ 64 ≤ length (now notes) ⌝ }
+    ensures { λ r. ⌜ r < 128 ⌝ }
+{
+    let next = (wide(notes[24]) * 1103515245 + 12345) % 2147483648;
+    notes[24] = next as u32;
+    next / 16777216
+}
