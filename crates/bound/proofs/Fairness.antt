@@ -22,11 +22,11 @@ use Rattle.rules.specs.Placement.{placed, together}
 use Rattle.rules.specs.Rules.{memoryOn, memoryBroken, loadOn, utilisationBroken, exclusionBroken}
 use Rattle.rules.specs.Sets.{standing}
 use Rattle.rules.proofs.Where.{differ, together-intro, pair-intro}
-use Rattle.conflict.specs.Entry.{tasksIn}
+use Rattle.timing.specs.Timing.{tasksIn}
 use Rattle.judge.specs.Judge.{PlacementOf}
-use Rattle.judge.proofs.Limits.{valid-tasks, constrained-tasks}
+use Rattle.timing.proofs.Limits.{valid-tasks, constrained-tasks}
 use Rattle.columns.specs.Columns.{loadsOf, exclusionsOf}
-use Rattle.columns.proofs.Laws.{loads-get, exclusions-get, excluded-out}
+use Rattle.columns.proofs.Laws.{loads-get, neighbours-get, beside-out}
 use Rattle.answer.specs.Answer.{maskAt}
 use Rattle.ledger.specs.Ledger.{Covered, Bad}
 use Rattle.ledger.proofs.Growth.{covered-more, covered-yes, covered-no}
@@ -106,7 +106,7 @@ module _ {t : Table} {s : State} {B : (ℕ → Bool) → Type 0} {q : List ℕ} 
   pub not-both-there : (j k : ℕ) → k < t .tasks .count → T (placed q j p) → T (placed q k p) → T (has (getD (exclusionsOf t) k 0) j) → ⊥
   unfolding exclusionBroken
   not-both-there j k l u v x =
-      let o = excluded-out t k j (subst (λ (m : ℕ). T (has m j)) (exclusions-get t h k l) x) in
+      let o = beside-out (t .ex) (t .tasks .count) k j (subst (λ (m : ℕ). T (has m j)) (neighbours-get t h (t .ex) k l) x) in
       let m = t .processors .count in
       w .keeps .exclusion (o .2) (o .3)
       (pair-intro (t .tasks .count) (getD (t .ex .mask) (o .2) 0) (λ i r. not (eqb i r) && together m (placed q i) (placed q r)) j k (o .0) l (o .5) (o .4)

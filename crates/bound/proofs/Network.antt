@@ -22,8 +22,8 @@ use Rattle.rules.specs.Rules.{crosses, amountOf, traffic, networkBroken}
 use Rattle.rules.specs.Sets.{standing}
 use Rattle.rules.proofs.Where.{apart-elim, apart-intro}
 use Rattle.rules.proofs.Monotone.{apart-more}
-use Rattle.conflict.specs.Entry.{tasksIn}
-use Rattle.columns.specs.Columns.{amountsOf, exclusionsOf}
+use Rattle.timing.specs.Timing.{tasksIn}
+use Rattle.columns.specs.Columns.{amountsOf, exclusionsOf, messagesOf, exclusionRow}
 use Rattle.columns.proofs.Laws.{amounts-get, amounts-bound}
 use Rattle.ledger.specs.Ledger.{Ledger, Bad}
 use Rattle.ledger.proofs.Growth.{grows-refl}
@@ -40,8 +40,8 @@ use Rattle.offer.proofs.Meeting.{not-both}
 use Rattle.bound.proofs.Fairness.{has-or-takes, not-both-there, refuted-fair}
 
 -- the messages of the table
-pub carried-of : {t : Table} {sizes : Sizes} {residence memory exclusions co sender receiver loads amounts : List ℕ} → Lent t sizes residence memory exclusions co sender receiver loads amounts
-    → Carried sender receiver amounts (sizes .messages)
+pub carried-of : {t : Table} {sizes : Sizes} {columns links : List (List ℕ)} → Lent t sizes columns links
+    → Carried links (sizes .messages)
 carried-of {t} l = record {
   few = omega (arith, l .messages, l .sound .messages .most);
   from-task = λ j i. rw (l .same-sender) (omega (arith, l .messages, l .sound .messages .from-task j (omega (arith, l .messages)), l .sound .tasks .most));
@@ -50,9 +50,10 @@ carried-of {t} l = record {
 }
 
 -- what they amount to, by the table's columns
-pub crossing-as : {t : Table} {sizes : Sizes} {residence memory exclusions co sender receiver loads amounts : List ℕ} → Lent t sizes residence memory exclusions co sender receiver loads amounts
-    → (s : State) (sets : List ℕ) {r : ℕ} → r ≡ crossingOf exclusions sender receiver amounts (sizes .messages) s sets (sizes .processors)
-    → r ≡ crossingOf (exclusionsOf t) (t .messages .sender) (t .messages .receiver) (amountsOf t) (t .messages .count) s sets (t .processors .count)
+pub crossing-as : {t : Table} {sizes : Sizes} {columns links : List (List ℕ)} → Lent t sizes columns links
+    → (s : State) (sets : List ℕ) {r : ℕ} → r ≡ crossingOf (exclusionRow columns) links (sizes .messages) s sets (sizes .processors)
+    → r ≡ crossingOf (exclusionsOf t) (messagesOf t) (t .messages .count) s sets (t .processors .count)
+unfolding crossingOf
 crossing-as l s sets e = rw (l .same-exclusions, l .same-sender, l .same-receiver, l .same-amounts, l .messages, l .processors) at e
 
 module _ {t : Table} {s : State} {B : (ℕ → Bool) → Type 0} (sets : List ℕ) {q : List ℕ} (h : Sound t) (f : Fits t s) (c : Choices t s B sets) (w : Fair t s B q) where
@@ -86,7 +87,7 @@ module _ {t : Table} {s : State} {B : (ℕ → Bool) → Type 0} (sets : List �
           here = subst (λ (r : ℕ). T (placed q to r)) e (home to i .1)
 
   -- so they add to the network's work
-  crossing-more : traffic t (standing (s .on)) + crossingOf (exclusionsOf t) (t .messages .sender) (t .messages .receiver) (amountsOf t) (t .messages .count) s sets (t .processors .count) ≤ traffic t (placed q)
+  crossing-more : traffic t (standing (s .on)) + crossingOf (exclusionsOf t) (messagesOf t) (t .messages .count) s sets (t .processors .count) ≤ traffic t (placed q)
   unfolding traffic crossingOf
   crossing-more =
       omega (
@@ -119,13 +120,13 @@ module _ {t : Table} {s : State} {B : (ℕ → Bool) → Type 0} (sets : List �
           ⊎-elim (λ o. f .open-task (from j) o .1 (a .0) (a .5)) (λ o. f .open-task (to j) o .1 (a .1) (a .6))
           (or-either (has (s .left) (from j)) (has (s .left) (to j)) (and-left (has (s .left) (from j) || has (s .left) (to j)) _ v))
 
-  crossing-fits : crossingOf (exclusionsOf t) (t .messages .sender) (t .messages .receiver) (amountsOf t) (t .messages .count) s sets (t .processors .count) ≤ s .traffic
+  crossing-fits : crossingOf (exclusionsOf t) (messagesOf t) (t .messages .count) s sets (t .processors .count) ≤ s .traffic
   unfolding networkBroken
   crossing-fits = omega (arith, crossing-more, f .traffic, kept-le (t .capacity * t .hyperperiod) (traffic t (placed q)) (w .keeps .network))
 
 -- more than it carries
 pub bounded-network : {t : Table} {s : State} {listing : Bool} {places : ℕ} (sets : List ℕ) {list : List ℕ} {count remote : ℕ} → Sound t → Fits t s → Ledger (tasksIn t) places list count
-    → Choices t s (Bad (tasksIn t) listing list count) sets → remote ≡ crossingOf (exclusionsOf t) (t .messages .sender) (t .messages .receiver) (amountsOf t) (t .messages .count) s sets (t .processors .count)
+    → Choices t s (Bad (tasksIn t) listing list count) sets → remote ≡ crossingOf (exclusionsOf t) (messagesOf t) (t .messages .count) s sets (t .processors .count)
     → BoundedAs t listing places s list count list (record { hopeless = ltb (s .traffic) remote; count = count })
 bounded-network {t} {s} {listing} sets {list} {count} {remote} h f w c e = record {
   ledger = w;

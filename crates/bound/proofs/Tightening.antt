@@ -3,7 +3,7 @@ use mathlib.Core.Path.{_≡_, sym, subst, _∙_}
 use mathlib.Core.Logic.{_⊎_, inl, inr, ⊎-elim}
 use mathlib.Core.Bool.{Bool, true, false, not, false≢true, true≢false}
 use mathlib.Core.List.{List}
-use Prim.Native.Nat.{ℕ, _≤_, _<_}
+use Prim.Native.Nat.{ℕ, zero, suc, _≤_, _<_}
 use native.Mathlib.Decide.{ℕ-discrete}
 use native.Mathlib.Omega.{arith}
 use borrow.Author.Tests.{ltb-true, not-true}
@@ -11,35 +11,35 @@ use lib.Dec.{ltb}
 use lib.ListN.{length, getD, set}
 use lib.Seq.{getD-set-same, getD-set-other}
 use Rattle.finite.specs.Finite.{sumTo}
+use Rattle.finite.proofs.Stored.{set-all}
 use Rattle.finite.proofs.Sum.{sum-le}
 use Rattle.mask.specs.Mask.{has}
 use Rattle.table.specs.declared.Table.{Table}
 use Rattle.table.specs.Sound.{Sound}
 use Rattle.schedule.specs.Arrays.{tasksOf}
 use Rattle.rules.specs.Sets.{standing}
-use Rattle.conflict.specs.Entry.{tasksIn}
-use Rattle.columns.specs.Columns.{loadsOf, exclusionsOf}
+use Rattle.timing.specs.Timing.{tasksIn}
+use Rattle.columns.specs.Columns.{loadsOf, exclusionsOf, memoryRow, loadRow, exclusionRow, weightsIn}
+use Rattle.columns.proofs.Laws.{loads-bound}
 use Rattle.ledger.specs.Ledger.{Ledger, Grows, Bad}
 use Rattle.ledger.proofs.Growth.{grows-refl, grows-trans, grows-map}
 use Rattle.ledger.proofs.Verdicts.{bad-grows}
 use Rattle.partial.specs.declared.State.{State}
 use Rattle.partial.specs.declared.Sizes.{Sizes}
-use Rattle.partial.specs.Partial.{Fits}
+use Rattle.partial.specs.Partial.{Lent, Fits}
 use Rattle.region.specs.Region.{Within, Met}
 use Rattle.region.specs.Lends.{Lends}
 use Rattle.region.proofs.Lending.{lent-tasks}
 use Rattle.packing.specs.declared.Packed.{Packed}
 use Rattle.packing.specs.Packing.{weightOf, Takes, PackedAs}
 use Rattle.packing.proofs.Taking.{takes-map}
-use Rattle.memo.specs.Weights.{rowOf}
 use Rattle.memo.specs.Memo.{Capped}
 use Rattle.bound.specs.declared.Bounded.{Bounded}
 use Rattle.offer.specs.declared.Offered.{Offered}
 use Rattle.bound.specs.Bound.{BoundedAs}
 use Rattle.offer.specs.Offer.{Fair, Eligible, Choices, OfferedAs}
-use Rattle.bound.specs.Weighing.{Weights, TopAs, Covers, Joins, Bounds, Tops, TightAs}
+use Rattle.bound.specs.Weighing.{Light, Weights, TopAs, Covers, Joins, Bounds, Tops, TightAs}
 use Rattle.offer.proofs.Meeting.{met-among}
-use Rattle.bound.proofs.Weighted.{set-all}
 use Rattle.offer.proofs.Choosing.{choice-map, eligible-below}
 use Rattle.bound.proofs.Fairness.{openOn, fair-joins, open-sum, refuted-fair}
 
@@ -80,8 +80,8 @@ module _ {t : Table} {s : State} {listing : Bool} {places : ℕ} {weights sets t
   }
 
   -- or one that is kept, of late sets
-  pub tight-recalled : {guide : List ℕ} {row top most : ℕ} → listing ≡ false → weights ≡ rowOf (t .tasks .memory) (loadsOf t) guide row → Ledger (tasksIn t) places list count
-      → Capped t guide (getD (s .on) p 0) (getD sets p 0) row (getD (s .memory) p 0) (getD (s .load) p 0) top
+  pub tight-recalled : {columns : List (List ℕ)} {row top most : ℕ} → listing ≡ false → weights ≡ weightsIn columns row → Ledger (tasksIn t) places list count
+      → Capped t columns (getD (s .on) p 0) (getD sets p 0) row (getD (s .memory) p 0) (getD (s .load) p 0) top
       → (most ≤ getD tops p 0) × (most ≤ top) × ((most ≡ getD tops p 0) ⊎ (most ≡ top)) → TightAs t listing places s weights sets tops p list count list (record { most = most; count = count })
   tight-recalled {top = top} e v w c m = record {
     ledger = w;
@@ -106,24 +106,31 @@ module _ {t : Table} {s : State} {listing : Bool} {places : ℕ} {weights sets t
   }
 
 -- a bound that can be kept
-pub tight-capped : {t : Table} {listing : Bool} {places : ℕ} {s : State} {weights sets tops old new guide : List ℕ} {p before row : ℕ} (r : Packed) → listing ≡ false
-    → weights ≡ rowOf (t .tasks .memory) (loadsOf t) guide row → TightAs t listing places s weights sets tops p old before new r
-    → Capped t guide (getD (s .on) p 0) (getD sets p 0) row (getD (s .memory) p 0) (getD (s .load) p 0) (r .most)
+pub tight-capped : {t : Table} {listing : Bool} {places : ℕ} {s : State} {weights sets tops old new : List ℕ} {columns : List (List ℕ)} {p before row : ℕ} (r : Packed) → listing ≡ false
+    → weights ≡ weightsIn columns row → TightAs t listing places s weights sets tops p old before new r
+    → Capped t columns (getD (s .on) p 0) (getD sets p 0) row (getD (s .memory) p 0) (getD (s .load) p 0) (r .most)
 tight-capped {t} {new = new} r e v a = record {
   bounds = λ x w f. rw (← v) (a .bounds x (record { inside = f; takes = takes-map (λ y bad. subst (λ (b : Bool). Bad (tasksIn t) b new (r .count) y) e bad) w }));
 }
 
--- the weights of a row, by the table's columns
-pub row-as : {t : Table} {sizes : Sizes} {work period deadline priority higher residence memory exclusions co sender receiver loads amounts : List ℕ}
-    → Lends t sizes work period deadline priority higher residence memory exclusions co sender receiver loads amounts → {weights : List ℕ} (guide : List ℕ) (row : ℕ)
-    → weights ≡ rowOf memory loads guide row → weights ≡ rowOf (t .tasks .memory) (loadsOf t) guide row
-row-as l guide row e = rw (l .rules .same-memory, l .rules .same-loads) at e
+-- the rows of weights
+pub weights-of : {t : Table} {sizes : Sizes} {columns links : List (List ℕ)} → Lent t sizes columns links → (row : ℕ) → row < 3 → Weights (memoryRow columns) (loadRow columns) row (weightsIn columns row)
+weights-of {t} {columns = columns} l row low = record {
+  light = light row low;
+  by-load = λ e k. rw e (omega arith);
+  by-memory = λ e k. rw e (omega arith);
+}
+  where
+    light : (w : ℕ) → w < 3 → Light (weightsIn columns w)
+    light zero h k = rw (l .same-loads) (omega (arith, loads-bound t (l .sound) k))
+    light (suc zero) h k = rw (l .same-memory) (omega (arith, l .sound .tasks .memory .fits k))
+    light (suc (suc zero)) h k = l .light k
+    light (suc (suc (suc w))) h k = absurd (omega arith)
 
 -- what the packing leaves, by the table's columns
-pub packed-as : {t : Table} {sizes : Sizes} {work period deadline priority higher residence memory exclusions co sender receiver loads amounts : List ℕ}
-    → Lends t sizes work period deadline priority higher residence memory exclusions co sender receiver loads amounts
+pub packed-as : {t : Table} {sizes : Sizes} {timing columns links : List (List ℕ)} → Lends t sizes timing columns links
     → {listing : Bool} {places : ℕ} {weights : List ℕ} {on all space spare stop : ℕ} {old new : List ℕ} {before : ℕ} {r : Packed}
-    → PackedAs (sizes .tasks) (tasksOf (sizes .tasks) work period deadline priority) listing places memory exclusions loads weights on all space spare 0 stop 0 old before new r
+    → PackedAs (sizes .tasks) (tasksOf (sizes .tasks) timing) listing places (memoryRow columns) (exclusionRow columns) (loadRow columns) weights on all space spare 0 stop 0 old before new r
     → PackedAs (t .tasks .count) (tasksIn t) listing places (t .tasks .memory) (exclusionsOf t) (loadsOf t) weights on all space spare 0 stop 0 old before new r
 packed-as l a = rw (lent-tasks l, l .rules .tasks, l .rules .same-memory, l .rules .same-exclusions, l .rules .same-loads) at a
 

@@ -1,9 +1,9 @@
--- Weights of sets of tasks: how large they are, one by another, an array of them filled place by place. Assumes nothing.
+-- Weights of sets of tasks: how large they are, one by another. Assumes nothing.
 use mathlib.Core.Path.{_≡_, refl, sym, subst, _∙_}
-use mathlib.Core.Logic.{_≢_, _⊎_, inl, inr, ⊎-elim}
+use mathlib.Core.Logic.{_⊎_, inl, inr, ⊎-elim}
 use mathlib.Core.Bool.{Bool, true, false}
 use mathlib.Core.List.{List}
-use Prim.Native.Nat.{ℕ, zero, suc, _+_, _≤_, _<_}
+use Prim.Native.Nat.{ℕ, _+_, _≤_, _<_}
 use native.Mathlib.Omega.{arith}
 use native.Mathlib.Decide.{ℕ-discrete, decLt}
 use borrow.Author.Tests.{lt-ltb, le-ltb}
@@ -11,6 +11,7 @@ use lib.Dec.{T}
 use lib.ListN.{length, getD, set, replicate}
 use lib.Seq.{getD-set-same, getD-set-other}
 use Rattle.finite.specs.Finite.{only}
+use Rattle.finite.proofs.Stored.{zeros, set-all}
 use Rattle.finite.proofs.Sum.{sum-le}
 use Rattle.finite.proofs.Only.{only-in, only-le, sum-bound}
 use Rattle.mask.specs.Mask.{has, below, Subset, removeOf}
@@ -18,9 +19,8 @@ use Rattle.mask.proofs.Laws.{below-has, remove-subset}
 use Rattle.partial.specs.declared.State.{State}
 use Rattle.packing.specs.Packing.{weightOf}
 use Rattle.packing.proofs.Taking.{weight-remove, weight-less}
-use Rattle.memo.specs.Weights.{lowerOf, cappedBy, weightIn}
-use Rattle.memo.proofs.Laws.{weight-none, zeros}
-use Rattle.bound.specs.Weighing.{Light, Weights, TopAs}
+use Rattle.memo.proofs.Laws.{weight-none}
+use Rattle.bound.specs.Weighing.{lowerOf, Light, Weights, TopAs}
 
 -- the lower of two numbers
 pub lower-left : (a b : ℕ) → a < b → a ≡ lowerOf a b
@@ -45,43 +45,6 @@ weight-small weights x light = sum-bound 24 _ 4294967295 (λ k l. only-le (has x
 pub weight-by : (n : ℕ) (a b : List ℕ) (x : ℕ) → ((k : ℕ) → getD a k 0 ≤ getD b k 0) → weightOf n a x ≤ weightOf n b x
 unfolding weightOf
 weight-by n a b x f = sum-le n _ _ (λ k l. only-le (has x k) (getD a k 0) (only (has x k) (getD b k 0)) (λ u. omega (arith, only-in (has x k) (getD b k 0) u, f k)))
-
--- what holds at every place holds after a store of a number of which it holds
-pub set-all : (P : ℕ → ℕ → Type 0) (l : List ℕ) (i v : ℕ) → i < length l → ((j : ℕ) → P j (getD l j 0)) → P i v → (j : ℕ) → P j (getD (set l i v) j 0)
-set-all P l i v low f h j = go (ℕ-discrete j i)
-  where
-    go : Dec (j ≡ i) → P j (getD (set l i v) j 0)
-    go (yes e) = subst (λ (x : ℕ). P x (getD (set l i v) x 0)) (sym e) (subst (P i) (sym (getD-set-same l i v 0 low)) h)
-    go (no e) = subst (P j) (sym (getD-set-other l i j v 0 e)) (f j)
-
--- no weights
-pub weights-start : {memory loads : List ℕ} {row : ℕ} → Weights memory loads row (replicate 24 0)
-weights-start = record { light = λ k. omega (arith, zeros 24 k); by-load = λ e k. omega (arith, zeros 24 k); by-memory = λ e k. omega (arith, zeros 24 k) }
-
--- one weight more
-pub weights-next : {memory loads : List ℕ} (guide : List ℕ) {row : ℕ} {weights : List ℕ} {k v : ℕ} → Weights memory loads row weights → k < length weights
-    → (v < 4294967296) × (v ≡ weightIn memory loads guide row k) → Weights memory loads row (set weights k v)
-weights-next {memory} {loads} guide {row} {weights} {k} {v} w l (f, e) = record {
-  light = set-all (λ j x. x < 4294967296) weights k v l (w .light) f;
-  by-load = λ i. set-all (λ j x. x ≤ getD loads j 0) weights k v l (w .by-load i) (lower-is _ _ (rw i at e) .0);
-  by-memory = λ i. set-all (λ j x. x ≤ getD memory j 0) weights k v l (w .by-memory i) (lower-is _ _ (rw i at e) .0);
-}
-
--- a number of the guide, by its row: capped by the load, by the memory, or as it is
-module _ (row load memory weight wide : ℕ) (e : (wide ≡ weight) × (wide < 4294967296)) where
-  pub weight-load : {r : ℕ} → row ≡ 0 → r ≡ lowerOf load wide → (r < 4294967296) × (r ≡ cappedBy row load memory weight)
-  weight-load i h = (omega (arith, lower-is load wide h), rw (i, ← e .0) h)
-
-  pub weight-memory : {r a : ℕ} → row ≡ 1 → a ≡ memory → r ≡ lowerOf a wide → (r < 4294967296) × (r ≡ cappedBy row load memory weight)
-  weight-memory {a = a} i o h = (omega (arith, lower-is a wide h), rw (i, ← e .0, ← o) h)
-
-  pub weight-guide : row ≢ 0 → row ≢ 1 → (wide < 4294967296) × (wide ≡ cappedBy row load memory weight)
-  weight-guide a b = (e .1, go row a b)
-    where
-      go : (n : ℕ) → n ≢ 0 → n ≢ 1 → wide ≡ cappedBy n load memory weight
-      go zero u v = absurd (u refl)
-      go (suc zero) u v = absurd (v refl)
-      go (suc (suc n)) u v = e .0
 
 -- ---- the sum over a set, task by task
 

@@ -1,16 +1,16 @@
 -- The weight bound: how much of the open tasks' weight each processor can take at most.
 use mathlib.Core.Path.{_≡_}
-use mathlib.Core.Bool.{Bool, not, _&&_, _||_}
+use mathlib.Core.Bool.{Bool, true, false, not, _&&_, _||_}
 use mathlib.Core.List.{List}
 use Prim.Native.Nat.{ℕ, _≤_, _<_}
-use lib.Dec.{T}
+use lib.Dec.{T, ltb}
 use lib.ListN.{getD}
 use Rattle.finite.specs.Finite.{only, sumTo, someBelow}
 use Rattle.mask.specs.Mask.{has, below, Subset}
 use Rattle.table.specs.declared.Table.{Table}
 use Rattle.rules.specs.Sets.{standing}
-use Rattle.conflict.specs.Entry.{tasksIn}
-use Rattle.columns.specs.Columns.{loadsOf, exclusionsOf}
+use Rattle.timing.specs.Timing.{tasksIn}
+use Rattle.columns.specs.Columns.{loadsOf, exclusionsOf, senderRow, receiverRow, amountRow}
 use Rattle.partial.specs.declared.State.{State}
 use Rattle.ledger.specs.Ledger.{Ledger, Grows, Bad}
 use Rattle.region.specs.Region.{Within, Met}
@@ -19,11 +19,15 @@ use Rattle.packing.specs.Packing.{weightOf, joined, Takes}
 
 -- ---- weights
 
+-- the lower of two numbers
+abbrev pub lowerOf : ℕ → ℕ → ℕ
+lowerOf a b = elim (ltb a b) [ true ↦ a | false ↦ b ]
+
 -- small numbers, so that sums of them fit
 abbrev pub Light : List ℕ → Type 0
 Light weights = (k : ℕ) → getD weights k 0 < 4294967296
 
--- weights of a row: any small numbers; in row 0 no more than the loads, in row 1 than the memory
+-- weights of a row: any small numbers; in row 0 no more than the loads, in row 1 than the memory (they are the loads, and the memory)
 pub record Weights (memory loads : List ℕ) (row : ℕ) (weights : List ℕ) : Type 0 where
   pub light : Light weights
   pub by-load : row ≡ 0 → (k : ℕ) → getD weights k 0 ≤ getD loads k 0
@@ -72,12 +76,12 @@ mustCross exclusions s sets m from to =
     && (has (getD exclusions from 0) to || not (someBelow m (λ p. joined (getD (s .on) p 0) (getD sets p 0) from && joined (getD (s .on) p 0) (getD sets p 0) to)))
 
 -- what the messages between such tasks amount to
-unfoldable pub crossingOf : List ℕ → List ℕ → List ℕ → List ℕ → ℕ → State → List ℕ → ℕ → ℕ
-crossingOf exclusions sender receiver amounts messages s sets m = sumTo messages (λ j. only (mustCross exclusions s sets m (getD sender j 0) (getD receiver j 0)) (getD amounts j 0))
+unfoldable pub crossingOf : List ℕ → List (List ℕ) → ℕ → State → List ℕ → ℕ → ℕ
+crossingOf exclusions links count s sets m = sumTo count (λ j. only (mustCross exclusions s sets m (getD (senderRow links) j 0) (getD (receiverRow links) j 0)) (getD (amountRow links) j 0))
 
 -- messages between tasks, small enough that their sum fits
-pub record Carried (sender receiver amounts : List ℕ) (messages : ℕ) : Type 0 where
-  pub few : messages ≤ 64
-  pub from-task : (j : ℕ) → j < messages → getD sender j 0 < 24
-  pub to-task : (j : ℕ) → j < messages → getD receiver j 0 < 24
-  pub small : (j : ℕ) → j < messages → getD amounts j 0 ≤ 1000000000000000
+pub record Carried (links : List (List ℕ)) (count : ℕ) : Type 0 where
+  pub few : count ≤ 64
+  pub from-task : (j : ℕ) → j < count → getD (senderRow links) j 0 < 24
+  pub to-task : (j : ℕ) → j < count → getD (receiverRow links) j 0 < 24
+  pub small : (j : ℕ) → j < count → getD (amountRow links) j 0 ≤ 1000000000000000

@@ -7,7 +7,8 @@ ghost use mathlib.Core.Bool.{false, _&&_, _||_};
 ghost use Rattle.finite.specs.Finite.{sumTo, someBelow};
 ghost use Rattle.mask.specs.Mask.{has, below};
 ghost use Rattle.table.specs.declared.Table.{Table};
-ghost use Rattle.conflict.specs.Entry.{tasksIn};
+ghost use Rattle.timing.specs.Timing.{tasksIn};
+ghost use Rattle.columns.specs.Columns.{weightsIn};
 ghost use Rattle.partial.specs.Partial.{Fits};
 ghost use Rattle.ledger.specs.Ledger.{Ledger, Bad};
 ghost use Rattle.region.specs.Lends.{Lends};
@@ -15,13 +16,23 @@ ghost use Rattle.region.specs.Begins.{Begins};
 ghost use Rattle.packing.specs.Packing.{weightOf, joined};
 ghost use Rattle.known.specs.Known.{Knows};
 ghost use Rattle.memo.specs.Memo.{Learnt};
-ghost use Rattle.memo.specs.Weights.{lowerOf, weightIn, rowOf};
 ghost use Rattle.bound.specs.Bound.{BoundedAs};
 ghost use Rattle.offer.specs.Offer.{Eligible, Choices};
-ghost use Rattle.bound.specs.Weighing.{Light, Weights, TopAs, Covers, Tops, TightAs, mustCross, crossingOf, Carried};
+ghost use Rattle.bound.specs.Weighing.{lowerOf, Light, TopAs, Covers, Tops, TightAs, mustCross, crossingOf, Carried};
+use columns::AMOUNT;
+use columns::Columns;
+use columns::EXCLUSIONS;
+use columns::LOAD;
+use columns::Messages;
+use columns::RECEIVER;
+use columns::SENDER;
+use known::Known;
+use ledger::Mode;
+use memo::Memo;
 use packing::Packed;
 use partial::Sizes;
 use partial::State;
+use schedule::Timing;
 
 // Whether a region is given up at once, and how many conflicts are listed then.
 pub struct Bounded {
@@ -46,48 +57,8 @@ fn lower(a: u64, b: u64) -> u64
     b
 }
 
-// The weight of task k in a row of the guide: no more than its load in row 0, and than its memory in row 1.
-fn weight<'a>(
-    memory: &'a [u32; 24],
-    loads: &'a [u64; 24],
-    guide: &'a [u32; 120],
-    row: usize,
-    k: usize,
-) -> u64
-    requires { ⌜ (row < 3) × (k < 24) ⌝ }
-    ensures { λ r. ⌜ (r < 4294967296) × (r ≡ weightIn (now (memory .entry)) (now (loads .entry)) (now (guide .entry)) row k) ⌝ }
-{
-    let weight = wide(guide[24 * row + k]);
-    if row == 0 {
-        return lower(loads[k], weight);
-    }
-    if row == 1 {
-        return lower(wide(memory[k]), weight);
-    }
-    weight
-}
-
-// The weights of a row of the guide.
-fn weights_of<'a>(
-    memory: &'a [u32; 24],
-    loads: &'a [u64; 24],
-    guide: &'a [u32; 120],
-    row: usize,
-) -> [u64; 24]
-    requires { ⌜ row < 3 ⌝ }
-    ensures { λ r. ⌜ Weights (now (memory .entry)) (now (loads .entry)) row r × (r ≡ rowOf (now (memory .entry)) (now (loads .entry)) (now (guide .entry)) row) ⌝ }
-{
-    let mut weights = [0u64; 24];
-    let mut k: usize = 0;
-    while k < 24 {
-        weights[k] = weight(memory, loads, guide, row, k);
-        k += 1;
-    }
-    weights
-}
-
 // The weight of a set of tasks.
-fn weight_of(weights: &[u64; 24], set: u32) -> u64
+fn weight_of(weights: &[u32; 24], set: u32) -> u64
     requires { ⌜ T (below 24 set) × Light (now weights) ⌝ }
     ensures { λ r. ⌜ (r ≤ 103079215080) × ((n : ℕ) → T (below n set) → r ≡ weightOf n (now (weights .entry)) set) ⌝ }
 {
@@ -95,14 +66,14 @@ fn weight_of(weights: &[u64; 24], set: u32) -> u64
     let mut rest = set;
     while rest != 0 {
         let k = mask::lowest(rest);
-        sum += weights[k];
+        sum += wide(weights[k]);
         rest = mask::remove(rest, k);
     }
     sum
 }
 
 // A bound on the weight that a processor can take of the candidates: all of them, or by what is left of its load (row 0) or memory (row 1).
-fn top(weights: &[u64; 24], set: u32, row: usize, space: u64, spare: u64) -> u64
+fn top(weights: &[u32; 24], set: u32, row: usize, space: u64, spare: u64) -> u64
     requires { ⌜ T (below 24 set) × Light (now weights) ⌝ }
     ensures { λ r. ⌜ TopAs (now (weights .entry)) set row space spare r ⌝ }
 {
@@ -117,7 +88,7 @@ fn top(weights: &[u64; 24], set: u32, row: usize, space: u64, spare: u64) -> u64
 }
 
 // Such a bound for each of the m processors.
-fn tops_of(weights: &[u64; 24], sets: [u32; 8], row: usize, s: State, m: usize) -> [u64; 8]
+fn tops_of(weights: &[u32; 24], sets: [u32; 8], row: usize, s: State, m: usize) -> [u64; 8]
     requires { ⌜ (m ≤ 8) × Light (now weights) × ((p : ℕ) → p < m → T (below 24 (getD sets p 0))) ⌝ }
     ensures { λ r. ⌜ (length r ≡ 8) × ((p : ℕ) → getD r p 0 ≤ 103079215080) × ((p : ℕ) → p < m → TopAs (now (weights .entry)) (getD sets p 0) row (getD (s .memory) p 0) (getD (s .load) p 0) (getD r p 0)) ⌝ }
 {
@@ -181,51 +152,32 @@ fn like(s: State, sets: [u32; 8], p: usize) -> usize
 
 // A tighter bound for processor p, by packing.
 fn pack<'a>(
-    work: &'a [u32; 24],
-    period: &'a [u32; 24],
-    deadline: &'a [u32; 24],
-    priority: &'a [u32; 24],
-    higher: &'a [u32; 24],
-    residence: &'a [u32; 24],
-    memory: &'a [u32; 24],
-    exclusions: &'a [u32; 24],
-    co: &'a [u32; 16],
-    sender: &'a [u32; 64],
-    receiver: &'a [u32; 64],
-    loads: &'a [u64; 24],
-    amounts: &'a [u64; 64],
-    guide: &'a [u32; 120],
-    weights: &'a [u64; 24],
+    timing: &'a Timing,
+    columns: &'a Columns,
+    messages: &'a Messages,
+    row: usize,
     sizes: Sizes,
     s: State,
     sets: [u32; 8],
     tops: [u64; 8],
     p: usize,
-    listing: bool,
+    mode: Mode,
     list: &mut [u8],
-    places: usize,
     count: usize,
-    known: &mut [u32; 16384],
+    known: &mut Known,
 ) -> Packed
-    requires { ⌜ ((t : Table) × Lends t sizes (now work) (now period) (now deadline) (now priority) (now higher) (now residence) (now memory) (now exclusions) (now co) (now sender) (now receiver) (now loads) (now amounts) × Fits t s × Ledger (tasksIn t) places (now list) count × ((p : ℕ) → p < t .processors .count → Eligible t s p (getD sets p 0)) × Tops t s (Bad (tasksIn t) listing (now list) count) (now weights) sets tops × Knows (tasksIn t) (now known)) × Light (now weights) × (p < sizes .processors) ⌝ }
-    ensures { λ r. ⌜ ((t : Table) → Lends t sizes (now (work .entry)) (now (period .entry)) (now (deadline .entry)) (now (priority .entry)) (now (higher .entry)) (now (residence .entry)) (now (memory .entry)) (now (exclusions .entry)) (now (co .entry)) (now (sender .entry)) (now (receiver .entry)) (now (loads .entry)) (now (amounts .entry))
-        → Fits t s → Ledger (tasksIn t) places (now (list .entry)) count
-        → ((p : ℕ) → p < t .processors .count → Eligible t s p (getD sets p 0)) → Tops t s (Bad (tasksIn t) listing (now (list .entry)) count) (now (weights .entry)) sets tops → Knows (tasksIn t) (now (known .entry)) → TightAs t listing places s (now (weights .entry)) sets tops p (now (list .entry)) count (now (list .exit)) r × Knows (tasksIn t) (now (known .exit))) ⌝ }
+    requires { ⌜ ((t : Table) × Lends t sizes (now timing) (now columns) (now messages) × Fits t s × Ledger (tasksIn t) (mode .places) (now list) count × ((p : ℕ) → p < t .processors .count → Eligible t s p (getD sets p 0)) × Tops t s (Bad (tasksIn t) (mode .listing) (now list) count) (weightsIn (now columns) row) sets tops × Knows (tasksIn t) (now known)) × (row < 3) × (p < sizes .processors) ⌝ }
+    ensures { λ r. ⌜ ((t : Table) → Lends t sizes (now (timing .entry)) (now (columns .entry)) (now (messages .entry))
+        → Fits t s → Ledger (tasksIn t) (mode .places) (now (list .entry)) count
+        → ((p : ℕ) → p < t .processors .count → Eligible t s p (getD sets p 0)) → Tops t s (Bad (tasksIn t) (mode .listing) (now (list .entry)) count) (weightsIn (now (columns .entry)) row) sets tops → Knows (tasksIn t) (now (known .entry)) → TightAs t (mode .listing) (mode .places) s (weightsIn (now (columns .entry)) row) sets tops p (now (list .entry)) count (now (list .exit)) r × Knows (tasksIn t) (now (known .exit))) ⌝ }
 {
     let most = tops[p];
     let set = sets[p];
-    let reach = weight_of(weights, set);
+    let reach = weight_of(&columns[LOAD + row], set);
     let packed = packing::most(
-        work,
-        period,
-        deadline,
-        priority,
-        higher,
-        memory,
-        exclusions,
-        loads,
-        weights,
-        guide,
+        timing,
+        columns,
+        &columns[LOAD + row],
         sizes.tasks,
         s.on[p],
         0,
@@ -236,9 +188,8 @@ fn pack<'a>(
         reach,
         most,
         0,
-        listing,
+        mode,
         list,
-        places,
         count,
         known,
     );
@@ -250,38 +201,25 @@ fn pack<'a>(
 
 // The same where no conflicts are listed: what is kept of it, or by packing, and that is kept then.
 fn pack_once<'a>(
-    work: &'a [u32; 24],
-    period: &'a [u32; 24],
-    deadline: &'a [u32; 24],
-    priority: &'a [u32; 24],
-    higher: &'a [u32; 24],
-    residence: &'a [u32; 24],
-    memory: &'a [u32; 24],
-    exclusions: &'a [u32; 24],
-    co: &'a [u32; 16],
-    sender: &'a [u32; 64],
-    receiver: &'a [u32; 64],
-    loads: &'a [u64; 24],
-    amounts: &'a [u64; 64],
-    guide: &'a [u32; 120],
-    weights: &'a [u64; 24],
+    timing: &'a Timing,
+    columns: &'a Columns,
+    messages: &'a Messages,
     row: usize,
     sizes: Sizes,
     s: State,
     sets: [u32; 8],
     tops: [u64; 8],
     p: usize,
-    listing: bool,
+    mode: Mode,
     list: &mut [u8],
-    places: usize,
     count: usize,
-    known: &mut [u32; 16384],
-    memo: &mut [u64; 12288],
+    known: &mut Known,
+    memo: &mut Memo,
 ) -> Packed
-    requires { ⌜ ((t : Table) × Lends t sizes (now work) (now period) (now deadline) (now priority) (now higher) (now residence) (now memory) (now exclusions) (now co) (now sender) (now receiver) (now loads) (now amounts) × Fits t s × Ledger (tasksIn t) places (now list) count × ((p : ℕ) → p < t .processors .count → Eligible t s p (getD sets p 0)) × Tops t s (Bad (tasksIn t) listing (now list) count) (now weights) sets tops × Learnt t (now guide) (now known) (now memo)) × Light (now weights) × (p < sizes .processors) × (now weights ≡ rowOf (now memory) (now loads) (now guide) row) × (listing ≡ false) ⌝ }
-    ensures { λ r. ⌜ ((t : Table) → Lends t sizes (now (work .entry)) (now (period .entry)) (now (deadline .entry)) (now (priority .entry)) (now (higher .entry)) (now (residence .entry)) (now (memory .entry)) (now (exclusions .entry)) (now (co .entry)) (now (sender .entry)) (now (receiver .entry)) (now (loads .entry)) (now (amounts .entry))
-        → Fits t s → Ledger (tasksIn t) places (now (list .entry)) count
-        → ((p : ℕ) → p < t .processors .count → Eligible t s p (getD sets p 0)) → Tops t s (Bad (tasksIn t) listing (now (list .entry)) count) (now (weights .entry)) sets tops → Learnt t (now (guide .entry)) (now (known .entry)) (now (memo .entry)) → TightAs t listing places s (now (weights .entry)) sets tops p (now (list .entry)) count (now (list .exit)) r × Learnt t (now (guide .entry)) (now (known .exit)) (now (memo .exit))) ⌝ }
+    requires { ⌜ ((t : Table) × Lends t sizes (now timing) (now columns) (now messages) × Fits t s × Ledger (tasksIn t) (mode .places) (now list) count × ((p : ℕ) → p < t .processors .count → Eligible t s p (getD sets p 0)) × Tops t s (Bad (tasksIn t) (mode .listing) (now list) count) (weightsIn (now columns) row) sets tops × Learnt t (now columns) (now known) (now memo)) × (row < 3) × (p < sizes .processors) × ((mode .listing) ≡ false) ⌝ }
+    ensures { λ r. ⌜ ((t : Table) → Lends t sizes (now (timing .entry)) (now (columns .entry)) (now (messages .entry))
+        → Fits t s → Ledger (tasksIn t) (mode .places) (now (list .entry)) count
+        → ((p : ℕ) → p < t .processors .count → Eligible t s p (getD sets p 0)) → Tops t s (Bad (tasksIn t) (mode .listing) (now (list .entry)) count) (weightsIn (now (columns .entry)) row) sets tops → Learnt t (now (columns .entry)) (now (known .entry)) (now (memo .entry)) → TightAs t (mode .listing) (mode .places) s (weightsIn (now (columns .entry)) row) sets tops p (now (list .entry)) count (now (list .exit)) r × Learnt t (now (columns .entry)) (now (known .exit)) (now (memo .exit))) ⌝ }
 {
     let on = s.on[p];
     let set = sets[p];
@@ -295,29 +233,17 @@ fn pack_once<'a>(
         };
     }
     let packed = pack(
-        work,
-        period,
-        deadline,
-        priority,
-        higher,
-        residence,
-        memory,
-        exclusions,
-        co,
-        sender,
-        receiver,
-        loads,
-        amounts,
-        guide,
-        weights,
+        timing,
+        columns,
+        messages,
+        row,
         sizes,
         s,
         sets,
         tops,
         p,
-        listing,
+        mode,
         list,
-        places,
         count,
         known,
     );
@@ -327,38 +253,25 @@ fn pack_once<'a>(
 
 // A tighter bound for processor p: that of an earlier one which can take just what p can, or by packing.
 fn tighten<'a>(
-    work: &'a [u32; 24],
-    period: &'a [u32; 24],
-    deadline: &'a [u32; 24],
-    priority: &'a [u32; 24],
-    higher: &'a [u32; 24],
-    residence: &'a [u32; 24],
-    memory: &'a [u32; 24],
-    exclusions: &'a [u32; 24],
-    co: &'a [u32; 16],
-    sender: &'a [u32; 64],
-    receiver: &'a [u32; 64],
-    loads: &'a [u64; 24],
-    amounts: &'a [u64; 64],
-    guide: &'a [u32; 120],
-    weights: &'a [u64; 24],
+    timing: &'a Timing,
+    columns: &'a Columns,
+    messages: &'a Messages,
     row: usize,
     sizes: Sizes,
     s: State,
     sets: [u32; 8],
     tops: [u64; 8],
     p: usize,
-    listing: bool,
+    mode: Mode,
     list: &mut [u8],
-    places: usize,
     count: usize,
-    known: &mut [u32; 16384],
-    memo: &mut [u64; 12288],
+    known: &mut Known,
+    memo: &mut Memo,
 ) -> Packed
-    requires { ⌜ ((t : Table) × Lends t sizes (now work) (now period) (now deadline) (now priority) (now higher) (now residence) (now memory) (now exclusions) (now co) (now sender) (now receiver) (now loads) (now amounts) × Fits t s × Ledger (tasksIn t) places (now list) count × ((p : ℕ) → p < t .processors .count → Eligible t s p (getD sets p 0)) × Tops t s (Bad (tasksIn t) listing (now list) count) (now weights) sets tops × Learnt t (now guide) (now known) (now memo)) × Light (now weights) × (p < sizes .processors) × (now weights ≡ rowOf (now memory) (now loads) (now guide) row) ⌝ }
-    ensures { λ r. ⌜ ((t : Table) → Lends t sizes (now (work .entry)) (now (period .entry)) (now (deadline .entry)) (now (priority .entry)) (now (higher .entry)) (now (residence .entry)) (now (memory .entry)) (now (exclusions .entry)) (now (co .entry)) (now (sender .entry)) (now (receiver .entry)) (now (loads .entry)) (now (amounts .entry))
-        → Fits t s → Ledger (tasksIn t) places (now (list .entry)) count
-        → ((p : ℕ) → p < t .processors .count → Eligible t s p (getD sets p 0)) → Tops t s (Bad (tasksIn t) listing (now (list .entry)) count) (now (weights .entry)) sets tops → Learnt t (now (guide .entry)) (now (known .entry)) (now (memo .entry)) → TightAs t listing places s (now (weights .entry)) sets tops p (now (list .entry)) count (now (list .exit)) r × Learnt t (now (guide .entry)) (now (known .exit)) (now (memo .exit))) ⌝ }
+    requires { ⌜ ((t : Table) × Lends t sizes (now timing) (now columns) (now messages) × Fits t s × Ledger (tasksIn t) (mode .places) (now list) count × ((p : ℕ) → p < t .processors .count → Eligible t s p (getD sets p 0)) × Tops t s (Bad (tasksIn t) (mode .listing) (now list) count) (weightsIn (now columns) row) sets tops × Learnt t (now columns) (now known) (now memo)) × (row < 3) × (p < sizes .processors) ⌝ }
+    ensures { λ r. ⌜ ((t : Table) → Lends t sizes (now (timing .entry)) (now (columns .entry)) (now (messages .entry))
+        → Fits t s → Ledger (tasksIn t) (mode .places) (now (list .entry)) count
+        → ((p : ℕ) → p < t .processors .count → Eligible t s p (getD sets p 0)) → Tops t s (Bad (tasksIn t) (mode .listing) (now (list .entry)) count) (weightsIn (now (columns .entry)) row) sets tops → Learnt t (now (columns .entry)) (now (known .entry)) (now (memo .entry)) → TightAs t (mode .listing) (mode .places) s (weightsIn (now (columns .entry)) row) sets tops p (now (list .entry)) count (now (list .exit)) r × Learnt t (now (columns .entry)) (now (known .exit)) (now (memo .exit))) ⌝ }
 {
     let r = like(s, sets, p);
     if r < p {
@@ -367,60 +280,35 @@ fn tighten<'a>(
             count,
         };
     }
-    if listing {
+    if mode.listing {
         return pack(
-            work,
-            period,
-            deadline,
-            priority,
-            higher,
-            residence,
-            memory,
-            exclusions,
-            co,
-            sender,
-            receiver,
-            loads,
-            amounts,
-            guide,
-            weights,
+            timing,
+            columns,
+            messages,
+            row,
             sizes,
             s,
             sets,
             tops,
             p,
-            listing,
+            mode,
             list,
-            places,
             count,
             known,
         );
     }
     pack_once(
-        work,
-        period,
-        deadline,
-        priority,
-        higher,
-        residence,
-        memory,
-        exclusions,
-        co,
-        sender,
-        receiver,
-        loads,
-        amounts,
-        guide,
-        weights,
+        timing,
+        columns,
+        messages,
         row,
         sizes,
         s,
         sets,
         tops,
         p,
-        listing,
+        mode,
         list,
-        places,
         count,
         known,
         memo,
@@ -429,69 +317,43 @@ fn tighten<'a>(
 
 // The bound by the weights of one row: the processors are tightened one after the other, until their sum is below what the open tasks weigh.
 fn weigh<'a>(
-    work: &'a [u32; 24],
-    period: &'a [u32; 24],
-    deadline: &'a [u32; 24],
-    priority: &'a [u32; 24],
-    higher: &'a [u32; 24],
-    residence: &'a [u32; 24],
-    memory: &'a [u32; 24],
-    exclusions: &'a [u32; 24],
-    co: &'a [u32; 16],
-    sender: &'a [u32; 64],
-    receiver: &'a [u32; 64],
-    loads: &'a [u64; 24],
-    amounts: &'a [u64; 64],
-    guide: &'a [u32; 120],
+    timing: &'a Timing,
+    columns: &'a Columns,
+    messages: &'a Messages,
     row: usize,
     sizes: Sizes,
     s: State,
     sets: [u32; 8],
-    listing: bool,
+    mode: Mode,
     list: &mut [u8],
-    places: usize,
     count: usize,
-    known: &mut [u32; 16384],
-    memo: &mut [u64; 12288],
+    known: &mut Known,
+    memo: &mut Memo,
 ) -> Bounded
-    requires { ⌜ ((t : Table) × Lends t sizes (now work) (now period) (now deadline) (now priority) (now higher) (now residence) (now memory) (now exclusions) (now co) (now sender) (now receiver) (now loads) (now amounts) × Fits t s × Ledger (tasksIn t) places (now list) count × Choices t s (Bad (tasksIn t) listing (now list) count) sets × Learnt t (now guide) (now known) (now memo)) × (row < 3) ⌝ }
-    ensures { λ r. ⌜ ((t : Table) → Lends t sizes (now (work .entry)) (now (period .entry)) (now (deadline .entry)) (now (priority .entry)) (now (higher .entry)) (now (residence .entry)) (now (memory .entry)) (now (exclusions .entry)) (now (co .entry)) (now (sender .entry)) (now (receiver .entry)) (now (loads .entry)) (now (amounts .entry))
-        → Fits t s → Ledger (tasksIn t) places (now (list .entry)) count
-        → Choices t s (Bad (tasksIn t) listing (now (list .entry)) count) sets → Learnt t (now (guide .entry)) (now (known .entry)) (now (memo .entry)) → BoundedAs t listing places s (now (list .entry)) count (now (list .exit)) r × Learnt t (now (guide .entry)) (now (known .exit)) (now (memo .exit))) ⌝ }
+    requires { ⌜ ((t : Table) × Lends t sizes (now timing) (now columns) (now messages) × Fits t s × Ledger (tasksIn t) (mode .places) (now list) count × Choices t s (Bad (tasksIn t) (mode .listing) (now list) count) sets × Learnt t (now columns) (now known) (now memo)) × (row < 3) ⌝ }
+    ensures { λ r. ⌜ ((t : Table) → Lends t sizes (now (timing .entry)) (now (columns .entry)) (now (messages .entry))
+        → Fits t s → Ledger (tasksIn t) (mode .places) (now (list .entry)) count
+        → Choices t s (Bad (tasksIn t) (mode .listing) (now (list .entry)) count) sets → Learnt t (now (columns .entry)) (now (known .entry)) (now (memo .entry)) → BoundedAs t (mode .listing) (mode .places) s (now (list .entry)) count (now (list .exit)) r × Learnt t (now (columns .entry)) (now (known .exit)) (now (memo .exit))) ⌝ }
 {
     let m = sizes.processors;
-    let weights = weights_of(memory, loads, guide, row);
-    let need = weight_of(&weights, s.left);
-    let mut tops = tops_of(&weights, sets, row, s, m);
+    let need = weight_of(&columns[LOAD + row], s.left);
+    let mut tops = tops_of(&columns[LOAD + row], sets, row, s, m);
     let mut sum = total(tops, m);
     let mut listed = count;
     let mut p: usize = 0;
     while p < m && need <= sum {
         let tight = tighten(
-            work,
-            period,
-            deadline,
-            priority,
-            higher,
-            residence,
-            memory,
-            exclusions,
-            co,
-            sender,
-            receiver,
-            loads,
-            amounts,
-            guide,
-            &weights,
+            timing,
+            columns,
+            messages,
             row,
             sizes,
             s,
             sets,
             tops,
             p,
-            listing,
+            mode,
             list,
-            places,
             listed,
             known,
             memo,
@@ -560,24 +422,22 @@ fn must_cross(
 // What the messages amount to that must cross the network, and do not yet.
 fn crossing<'a>(
     exclusions: &'a [u32; 24],
-    sender: &'a [u32; 64],
-    receiver: &'a [u32; 64],
-    amounts: &'a [u64; 64],
-    messages: usize,
+    messages: &'a Messages,
+    count: usize,
     s: State,
     sets: [u32; 8],
     m: usize,
 ) -> u64
-    requires { ⌜ (m ≤ 8) × Carried (now sender) (now receiver) (now amounts) messages ⌝ }
-    ensures { λ r. ⌜ r ≡ crossingOf (now (exclusions .entry)) (now (sender .entry)) (now (receiver .entry)) (now (amounts .entry)) messages s sets m ⌝ }
+    requires { ⌜ (m ≤ 8) × Carried (now messages) count ⌝ }
+    ensures { λ r. ⌜ r ≡ crossingOf (now (exclusions .entry)) (now (messages .entry)) count s sets m ⌝ }
 {
     let mut sum: u64 = 0;
     let mut j: usize = 0;
-    while j < messages {
-        let from = sender[j] as usize;
-        let to = receiver[j] as usize;
+    while j < count {
+        let from = messages[SENDER][j] as usize;
+        let to = messages[RECEIVER][j] as usize;
         if must_cross(exclusions, s, sets, m, from, to) {
-            sum += amounts[j];
+            sum += messages[AMOUNT][j];
         }
         j += 1;
     }
@@ -586,61 +446,36 @@ fn crossing<'a>(
 
 // The bound by the network, then by the weights of each row in turn.
 fn try_all<'a>(
-    work: &'a [u32; 24],
-    period: &'a [u32; 24],
-    deadline: &'a [u32; 24],
-    priority: &'a [u32; 24],
-    higher: &'a [u32; 24],
-    residence: &'a [u32; 24],
-    memory: &'a [u32; 24],
-    exclusions: &'a [u32; 24],
-    co: &'a [u32; 16],
-    sender: &'a [u32; 64],
-    receiver: &'a [u32; 64],
-    loads: &'a [u64; 24],
-    amounts: &'a [u64; 64],
-    guide: &'a [u32; 120],
+    timing: &'a Timing,
+    columns: &'a Columns,
+    messages: &'a Messages,
     sizes: Sizes,
     s: State,
-    listing: bool,
+    mode: Mode,
     list: &mut [u8],
-    places: usize,
     count: usize,
-    known: &mut [u32; 16384],
-    memo: &mut [u64; 12288],
+    known: &mut Known,
+    memo: &mut Memo,
 ) -> Bounded
-    requires { ⌜ ((t : Table) × Lends t sizes (now work) (now period) (now deadline) (now priority) (now higher) (now residence) (now memory) (now exclusions) (now co) (now sender) (now receiver) (now loads) (now amounts) × Fits t s × Ledger (tasksIn t) places (now list) count × Learnt t (now guide) (now known) (now memo)) ⌝ }
-    ensures { λ r. ⌜ ((t : Table) → Lends t sizes (now (work .entry)) (now (period .entry)) (now (deadline .entry)) (now (priority .entry)) (now (higher .entry)) (now (residence .entry)) (now (memory .entry)) (now (exclusions .entry)) (now (co .entry)) (now (sender .entry)) (now (receiver .entry)) (now (loads .entry)) (now (amounts .entry))
-        → Fits t s → Ledger (tasksIn t) places (now (list .entry)) count → Learnt t (now (guide .entry)) (now (known .entry)) (now (memo .entry)) → BoundedAs t listing places s (now (list .entry)) count (now (list .exit)) r × Learnt t (now (guide .entry)) (now (known .exit)) (now (memo .exit))) ⌝ }
+    requires { ⌜ ((t : Table) × Lends t sizes (now timing) (now columns) (now messages) × Fits t s × Ledger (tasksIn t) (mode .places) (now list) count × Learnt t (now columns) (now known) (now memo)) ⌝ }
+    ensures { λ r. ⌜ ((t : Table) → Lends t sizes (now (timing .entry)) (now (columns .entry)) (now (messages .entry))
+        → Fits t s → Ledger (tasksIn t) (mode .places) (now (list .entry)) count → Learnt t (now (columns .entry)) (now (known .entry)) (now (memo .entry)) → BoundedAs t (mode .listing) (mode .places) s (now (list .entry)) count (now (list .exit)) r × Learnt t (now (columns .entry)) (now (known .exit)) (now (memo .exit))) ⌝ }
 {
     let offered = offer::offers(
-        work,
-        period,
-        deadline,
-        priority,
-        higher,
-        residence,
-        memory,
-        exclusions,
-        co,
-        sender,
-        receiver,
-        loads,
-        amounts,
+        timing,
+        columns,
+        messages,
         sizes,
         s,
-        listing,
+        mode,
         list,
-        places,
         count,
         known,
     );
     let sets = offered.sets;
     let remote = crossing(
-        exclusions,
-        sender,
-        receiver,
-        amounts,
+        &columns[EXCLUSIONS],
+        messages,
         sizes.messages,
         s,
         sets,
@@ -651,27 +486,15 @@ fn try_all<'a>(
     let mut row: usize = 0;
     while row < 3 && !hopeless {
         let bounded = weigh(
-            work,
-            period,
-            deadline,
-            priority,
-            higher,
-            residence,
-            memory,
-            exclusions,
-            co,
-            sender,
-            receiver,
-            loads,
-            amounts,
-            guide,
+            timing,
+            columns,
+            messages,
             row,
             sizes,
             s,
             sets,
-            listing,
+            mode,
             list,
-            places,
             listed,
             known,
             memo,
@@ -725,33 +548,21 @@ fn note(notes: &mut [u32], hopeless: bool)
 // A bound on the region below a state: whether it can be given up at once, and how many conflicts are listed then.
 // Where conflicts are listed, it is tried without listing first, and again where that gives the region up.
 pub fn bound<'a>(
-    work: &'a [u32; 24],
-    period: &'a [u32; 24],
-    deadline: &'a [u32; 24],
-    priority: &'a [u32; 24],
-    higher: &'a [u32; 24],
-    residence: &'a [u32; 24],
-    memory: &'a [u32; 24],
-    exclusions: &'a [u32; 24],
-    co: &'a [u32; 16],
-    sender: &'a [u32; 64],
-    receiver: &'a [u32; 64],
-    loads: &'a [u64; 24],
-    amounts: &'a [u64; 64],
-    guide: &'a [u32; 120],
+    timing: &'a Timing,
+    columns: &'a Columns,
+    messages: &'a Messages,
     sizes: Sizes,
     s: State,
-    listing: bool,
+    mode: Mode,
     list: &mut [u8],
-    places: usize,
     count: usize,
     notes: &mut [u32],
-    known: &mut [u32; 16384],
-    memo: &mut [u64; 12288],
+    known: &mut Known,
+    memo: &mut Memo,
 ) -> Bounded
-    requires { ⌜ ((t : Table) × Lends t sizes (now work) (now period) (now deadline) (now priority) (now higher) (now residence) (now memory) (now exclusions) (now co) (now sender) (now receiver) (now loads) (now amounts) × Begins t listing places s (now list) count × Learnt t (now guide) (now known) (now memo)) × (64 ≤ length (now notes)) ⌝ }
-    ensures { λ r. ⌜ ((t : Table) → Lends t sizes (now (work .entry)) (now (period .entry)) (now (deadline .entry)) (now (priority .entry)) (now (higher .entry)) (now (residence .entry)) (now (memory .entry)) (now (exclusions .entry)) (now (co .entry)) (now (sender .entry)) (now (receiver .entry)) (now (loads .entry)) (now (amounts .entry))
-        → Begins t listing places s (now (list .entry)) count → Learnt t (now (guide .entry)) (now (known .entry)) (now (memo .entry)) → BoundedAs t listing places s (now (list .entry)) count (now (list .exit)) r × Learnt t (now (guide .entry)) (now (known .exit)) (now (memo .exit))) ⌝ }
+    requires { ⌜ ((t : Table) × Lends t sizes (now timing) (now columns) (now messages) × Begins t (mode .listing) (mode .places) s (now list) count × Learnt t (now columns) (now known) (now memo)) × (64 ≤ length (now notes)) ⌝ }
+    ensures { λ r. ⌜ ((t : Table) → Lends t sizes (now (timing .entry)) (now (columns .entry)) (now (messages .entry))
+        → Begins t (mode .listing) (mode .places) s (now (list .entry)) count → Learnt t (now (columns .entry)) (now (known .entry)) (now (memo .entry)) → BoundedAs t (mode .listing) (mode .places) s (now (list .entry)) count (now (list .exit)) r × Learnt t (now (columns .entry)) (now (known .exit)) (now (memo .exit))) ⌝ }
 {
     if !due(s.left, notes) {
         return Bounded {
@@ -759,54 +570,35 @@ pub fn bound<'a>(
             count,
         };
     }
+    let quiet = Mode {
+        listing: false,
+        places: mode.places,
+        limited: mode.limited,
+    };
     let first = try_all(
-        work,
-        period,
-        deadline,
-        priority,
-        higher,
-        residence,
-        memory,
-        exclusions,
-        co,
-        sender,
-        receiver,
-        loads,
-        amounts,
-        guide,
+        timing,
+        columns,
+        messages,
         sizes,
         s,
-        false,
+        quiet,
         list,
-        places,
         count,
         known,
         memo,
     );
-    if !(listing && first.hopeless) {
+    if !(mode.listing && first.hopeless) {
         note(notes, first.hopeless);
         return first;
     }
     let second = try_all(
-        work,
-        period,
-        deadline,
-        priority,
-        higher,
-        residence,
-        memory,
-        exclusions,
-        co,
-        sender,
-        receiver,
-        loads,
-        amounts,
-        guide,
+        timing,
+        columns,
+        messages,
         sizes,
         s,
-        listing,
+        mode,
         list,
-        places,
         first.count,
         known,
         memo,

@@ -5,13 +5,19 @@ ghost use lib.ListN.{length};
 ghost use Rattle.mask.specs.Mask.{has};
 ghost use Rattle.table.specs.declared.Table.{Table};
 ghost use Rattle.schedule.specs.Arrays.{tasksOf, InLimits};
-ghost use Rattle.conflict.specs.Entry.{tasksIn};
+ghost use Rattle.timing.specs.Timing.{tasksIn};
 ghost use Rattle.known.specs.Known.{Knows};
 ghost use Rattle.partial.specs.Partial.{Fits};
 ghost use Rattle.region.specs.Lends.{Lends};
+use columns::BASE;
+use columns::Columns;
+use columns::Messages;
+use known::Known;
+use ledger::Mode;
 use partial::Site;
 use partial::Sizes;
 use partial::State;
+use schedule::Timing;
 
 // x as a wider number.
 fn wide(x: u32) -> u64
@@ -31,52 +37,38 @@ fn score(base: u32, choices: u64, k: usize, notes: &mut [u32]) -> u64
 
 // Whether the search would pass over a set: it is late; or, with a full list of conflicts, it holds one of them.
 fn passed_over<'a>(
-    work: &'a [u32; 24],
-    period: &'a [u32; 24],
-    deadline: &'a [u32; 24],
-    priority: &'a [u32; 24],
-    higher: &'a [u32; 24],
+    timing: &'a Timing,
     tasks: usize,
     set: u32,
     full: bool,
     list: &[u8],
     count: usize,
-    known: &mut [u32; 16384],
+    known: &mut Known,
 ) -> bool
-    requires { ⌜ InLimits tasks (now work) (now period) (now deadline) (now priority) (now higher) set × (6 * count ≤ length (now list)) × Knows (tasksOf tasks (now work) (now period) (now deadline) (now priority)) (now known) ⌝ }
-    ensures { λ _. ⌜ Knows (tasksOf tasks (now (work .entry)) (now (period .entry)) (now (deadline .entry)) (now (priority .entry))) (now (known .exit)) ⌝ }
+    requires { ⌜ InLimits tasks (now timing) set × (6 * count ≤ length (now list)) × Knows (tasksOf tasks (now timing)) (now known) ⌝ }
+    ensures { λ _. ⌜ Knows (tasksOf tasks (now (timing .entry))) (now (known .exit)) ⌝ }
 {
     if full {
         return ledger::covered(list, count, set, known);
     }
-    known::is_late(work, period, deadline, priority, higher, tasks, set, known)
+    known::is_late(timing, tasks, set, known)
 }
 
 // How many processors can take the open task k: the rules allow it, and the search would not pass over the set.
 fn choices<'a>(
-    work: &'a [u32; 24],
-    period: &'a [u32; 24],
-    deadline: &'a [u32; 24],
-    priority: &'a [u32; 24],
-    higher: &'a [u32; 24],
-    residence: &'a [u32; 24],
-    memory: &'a [u32; 24],
-    exclusions: &'a [u32; 24],
-    co: &'a [u32; 16],
-    sender: &'a [u32; 64],
-    receiver: &'a [u32; 64],
-    loads: &'a [u64; 24],
-    amounts: &'a [u64; 64],
+    timing: &'a Timing,
+    columns: &'a Columns,
+    messages: &'a Messages,
     sizes: Sizes,
     s: State,
     k: usize,
     full: bool,
     list: &[u8],
     count: usize,
-    known: &mut [u32; 16384],
+    known: &mut Known,
 ) -> u64
-    requires { ⌜ ((t : Table) × Lends t sizes (now work) (now period) (now deadline) (now priority) (now higher) (now residence) (now memory) (now exclusions) (now co) (now sender) (now receiver) (now loads) (now amounts) × Fits t s × Knows (tasksIn t) (now known)) × T (has (s .left) k) × (6 * count ≤ length (now list)) ⌝ }
-    ensures { λ r. ⌜ (r ≤ 8) × ((t : Table) → Lends t sizes (now (work .entry)) (now (period .entry)) (now (deadline .entry)) (now (priority .entry)) (now (higher .entry)) (now (residence .entry)) (now (memory .entry)) (now (exclusions .entry)) (now (co .entry)) (now (sender .entry)) (now (receiver .entry)) (now (loads .entry)) (now (amounts .entry))
+    requires { ⌜ ((t : Table) × Lends t sizes (now timing) (now columns) (now messages) × Fits t s × Knows (tasksIn t) (now known)) × T (has (s .left) k) × (6 * count ≤ length (now list)) ⌝ }
+    ensures { λ r. ⌜ (r ≤ 8) × ((t : Table) → Lends t sizes (now (timing .entry)) (now (columns .entry)) (now (messages .entry))
         → Fits t s → Knows (tasksIn t) (now (known .entry)) → Knows (tasksIn t) (now (known .exit))) ⌝ }
 {
     let mut found: u64 = 0;
@@ -89,34 +81,9 @@ fn choices<'a>(
             load: s.load[p],
             traffic: s.traffic,
         };
-        if partial::allows(
-            residence,
-            memory,
-            exclusions,
-            co,
-            sender,
-            receiver,
-            loads,
-            amounts,
-            sizes,
-            site,
-            k,
-            p,
-        ) {
+        if partial::allows(columns, messages, sizes, site, k, p) {
             let set = mask::insert(site.on, k);
-            if !passed_over(
-                work,
-                period,
-                deadline,
-                priority,
-                higher,
-                sizes.tasks,
-                set,
-                full,
-                list,
-                count,
-                known,
-            ) {
+            if !passed_over(timing, sizes.tasks, set, full, list, count, known) {
                 found += 1;
             }
         }
@@ -127,53 +94,31 @@ fn choices<'a>(
 
 // An open task: the one with the lowest score. One that no processor can take is answered at once, and blamed.
 pub fn pick<'a>(
-    work: &'a [u32; 24],
-    period: &'a [u32; 24],
-    deadline: &'a [u32; 24],
-    priority: &'a [u32; 24],
-    higher: &'a [u32; 24],
-    residence: &'a [u32; 24],
-    memory: &'a [u32; 24],
-    exclusions: &'a [u32; 24],
-    co: &'a [u32; 16],
-    sender: &'a [u32; 64],
-    receiver: &'a [u32; 64],
-    loads: &'a [u64; 24],
-    amounts: &'a [u64; 64],
-    guide: &'a [u32; 120],
+    timing: &'a Timing,
+    columns: &'a Columns,
+    messages: &'a Messages,
     sizes: Sizes,
     s: State,
-    listing: bool,
+    mode: Mode,
     list: &[u8],
-    places: usize,
     count: usize,
     notes: &mut [u32],
-    known: &mut [u32; 16384],
+    known: &mut Known,
 ) -> usize
-    requires { ⌜ ((t : Table) × Lends t sizes (now work) (now period) (now deadline) (now priority) (now higher) (now residence) (now memory) (now exclusions) (now co) (now sender) (now receiver) (now loads) (now amounts) × Fits t s × Knows (tasksIn t) (now known)) × (0 < s .left) × (6 * count ≤ length (now list)) × (64 ≤ length (now notes)) ⌝ }
-    ensures { λ r. ⌜ T (has (s .left) r) × ((t : Table) → Lends t sizes (now (work .entry)) (now (period .entry)) (now (deadline .entry)) (now (priority .entry)) (now (higher .entry)) (now (residence .entry)) (now (memory .entry)) (now (exclusions .entry)) (now (co .entry)) (now (sender .entry)) (now (receiver .entry)) (now (loads .entry)) (now (amounts .entry))
+    requires { ⌜ ((t : Table) × Lends t sizes (now timing) (now columns) (now messages) × Fits t s × Knows (tasksIn t) (now known)) × (0 < s .left) × (6 * count ≤ length (now list)) × (64 ≤ length (now notes)) ⌝ }
+    ensures { λ r. ⌜ T (has (s .left) r) × ((t : Table) → Lends t sizes (now (timing .entry)) (now (columns .entry)) (now (messages .entry))
         → Fits t s → Knows (tasksIn t) (now (known .entry)) → Knows (tasksIn t) (now (known .exit))) ⌝ }
 {
-    let full = listing && count == places;
+    let full = mode.listing && count == mode.places;
     let mut best = mask::lowest(s.left);
     let mut least: u64 = 18446744073709551615;
     let mut rest = s.left;
     while rest != 0 {
         let k = mask::lowest(rest);
         let found = choices(
-            work,
-            period,
-            deadline,
-            priority,
-            higher,
-            residence,
-            memory,
-            exclusions,
-            co,
-            sender,
-            receiver,
-            loads,
-            amounts,
+            timing,
+            columns,
+            messages,
             sizes,
             s,
             k,
@@ -186,7 +131,7 @@ pub fn pick<'a>(
             notes::blame(notes, k);
             return k;
         }
-        let value = score(guide[96 + k], found, k, notes);
+        let value = score(columns[BASE][k], found, k, notes);
         if value < least {
             best = k;
             least = value;

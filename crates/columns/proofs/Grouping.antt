@@ -12,10 +12,10 @@ use lib.ListN.{getD}
 use Rattle.finite.specs.Finite.{someBelow}
 use Rattle.mask.specs.Mask.{has, below, removeOf}
 use Rattle.mask.proofs.Laws.{has-or, has-zero, has-remove, remove-subset, subset-below, has-below, below-has, ext}
-use Rattle.table.specs.declared.Table.{Table}
-use Rattle.table.specs.Sound.{Sound}
-use Rattle.columns.specs.Columns.{excludedFrom}
-use Rattle.columns.proofs.Laws.{sameGroup, group-out, excluded-test, excluded-below}
+use Rattle.table.specs.declared.Groups.{Groups}
+use Rattle.table.specs.Sound.{SoundGroups}
+use Rattle.columns.specs.Columns.{besideOf}
+use Rattle.columns.proofs.Laws.{sameGroup, group-out, beside-test, beside-below}
 
 -- the set has the tasks of those of the first g groups that task k is in
 pub record Grouped (masks : List ℕ) (n k g set : ℕ) : Type 0 where
@@ -36,18 +36,17 @@ module _ {masks : List ℕ} {n k g set : ℕ} (w : Grouped masks n k g set) (l :
   unfolding someBelow
   grouped-skip e = record { upto = omega arith; tasks = λ j. rw (add-one, e) (w .tasks j ∙ sym (or-false _)) }
 
-module _ {t : Table} {k g set : ℕ} (s : Sound t) (w : Grouped (t .ex .mask) (t .ex .count) k g set) where
+module _ {groups : Groups} {n k g set : ℕ} (s : SoundGroups n groups) (w : Grouped (groups .mask) (groups .count) k g set) where
   -- the groups name tasks of the table alone
-  grouped-below : T (below (t .tasks .count) set)
-  grouped-below = has-below (t .tasks .count) set (λ j u.
-      let r = group-out (t .ex .mask) g k j (rw (w .tasks j) at u) in
-      below-has (t .tasks .count) (getD (t .ex .mask) (r .0) 0) (lt→ltb _ _ (s .ex .below (r .0) (omega (arith, r .1, w .upto)))) j (r .3))
+  grouped-below : T (below n set)
+  grouped-below = has-below n set (λ j u.
+      let r = group-out (groups .mask) g k j (rw (w .tasks j) at u) in
+      below-has n (getD (groups .mask) (r .0) 0) (lt→ltb _ _ (s .below (r .0) (omega (arith, r .1, w .upto)))) j (r .3))
 
-  -- after the last group, without k: the tasks that are kept apart from k
-  pub grouped-end : {r : ℕ} → t .ex .count ≤ g → r ≡ removeOf set k → r ≡ excludedFrom t k
+  -- after the last group, without k
+  pub grouped-end : {r : ℕ} → groups .count ≤ g → r ≡ removeOf set k → r ≡ besideOf groups n k
   grouped-end l e =
-      let n = t .tasks .count in
-      let all : g ≡ t .ex .count = omega (arith, w .upto) in
+      let all : g ≡ groups .count = omega (arith, w .upto) in
       e
-      ∙ ext n (ltb→lt _ _ (subset-below n (removeOf set k) set (remove-subset set k) grouped-below)) (excluded-below t k)
-      (λ j m. has-remove set k j ∙ sym (rw (excluded-test t k j, lt-ltb j n m, w .tasks j, all)))
+      ∙ ext n (ltb→lt _ _ (subset-below n (removeOf set k) set (remove-subset set k) grouped-below)) (beside-below groups n k)
+      (λ j m. has-remove set k j ∙ sym (rw (beside-test groups n k j, lt-ltb j n m, w .tasks j, all)))

@@ -11,9 +11,10 @@ use Rattle.table.specs.declared.Outcome.{Outcome}
 use Rattle.table.specs.declared.Outcome.the-variants as outcomes
 use Rattle.table.specs.Table.{readOf}
 use Rattle.table.proofs.Ended.{refused-place}
+use Rattle.timing.specs.Timing.{tasksIn}
 use Rattle.conflict.specs.declared.Answer.the-variants.{Refused, Found}
 use Rattle.conflict.specs.Conflict.{findingOf}
-use Rattle.conflict.specs.Entry.{tasksIn, answerBy, answerOf}
+use Rattle.conflict.specs.Entry.{answerBy, answerOf}
 
 pub answer-place : (s : List ℕ) (mask : ℕ) (cause : Cause) (at : ℕ) → answerOf s mask ≡ Refused cause at → at ≤ 1302
 answer-place s mask cause at e = go (readOf s .outcome) refl e

@@ -62,5 +62,5 @@ module _ (s : Tasks) (valid : Valid s) (short : Constrained s) (set : ℕ) (task
   checked : (v : Finding) → Right s set v → Checked s set v
   checked v p = record { value = right-unique s set v (findingOf s set) p finding-right; right = p }
 
-pub checked-of : {n : ℕ} {c t d p higher : List ℕ} {set : ℕ} → InLimits n c t d p higher set → (v : Finding) → Right (tasksOf n c t d p) set v → Checked (tasksOf n c t d p) set v
-checked-of {n} {c} {t} {d} {p} {higher} {set} a = checked (tasksOf n c t d p) (valid-of a) (constrained-of a) set (a .inside)
+pub checked-of : {n : ℕ} {rows : List (List ℕ)} {set : ℕ} → InLimits n rows set → (v : Finding) → Right (tasksOf n rows) set v → Checked (tasksOf n rows) set v
+checked-of {n} {rows} {set} a = checked (tasksOf n rows) (valid-of a) (constrained-of a) set (a .inside)

@@ -1,5 +1,4 @@
 pub mod Findings
 pub mod ExtractLoop
-pub mod Limits
 pub mod AnswerPlace
 pub mod Counting

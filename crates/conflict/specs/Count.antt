@@ -11,7 +11,7 @@ use Rattle.table.specs.declared.Outcome.the-variants.{Readable, Refused}
 use Rattle.table.specs.Table.{readOf}
 use Rattle.schedule.specs.Periodic.{Tasks}
 use Rattle.schedule.specs.Response.{lateTest}
-use Rattle.conflict.specs.Entry.{tasksIn}
+use Rattle.timing.specs.Timing.{tasksIn}
 
 -- 1 for a late set of tasks
 abbrev pub lateAsNumber : Tasks → ℕ → ℕ

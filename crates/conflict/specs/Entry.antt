@@ -9,15 +9,10 @@ use Rattle.table.specs.declared.Table.{Table}
 use Rattle.table.specs.declared.Outcome.{Outcome}
 use Rattle.table.specs.declared.Outcome.the-variants as outcomes
 use Rattle.table.specs.Table.{readOf}
-use Rattle.schedule.specs.Periodic.{Tasks}
-use Rattle.schedule.specs.Arrays.{tasksOf}
+use Rattle.timing.specs.Timing.{tasksIn}
 use Rattle.conflict.specs.declared.Answer.{Answer}
 use Rattle.conflict.specs.declared.Answer.the-variants.{Refused, Found}
 use Rattle.conflict.specs.Conflict.{Right, findingOf}
-
--- the tasks of a table, as the tick run has them
-abbrev pub tasksIn : Table → Tasks
-tasksIn t = tasksOf (t .tasks .count) (t .tasks .c) (t .tasks .t) (t .tasks .d) (t .tasks .priority)
 
 -- 15: a mask with an unknown task or fewer than two; place 0
 abbrev pub tableAnswer : Table → ℕ → Answer

@@ -6,8 +6,10 @@ ghost use Rattle.schedule.specs.Periodic.{LateSet};
 ghost use Rattle.schedule.specs.Arrays.{tasksOf, InLimits};
 ghost use Rattle.table.specs.Sound.{Sound};
 ghost use Rattle.conflict.specs.Conflict.{numberOf, Checked, MinimalWithin};
-ghost use Rattle.conflict.specs.Entry.{tasksIn, Answered, AnsweredFor};
+ghost use Rattle.timing.specs.Timing.{tasksIn};
+ghost use Rattle.conflict.specs.Entry.{Answered, AnsweredFor};
 ghost use Rattle.conflict.specs.Count.{lateAsNumber, lateCount, lateCountOf};
+use schedule::Timing;
 use table::Outcome;
 use table::Table;
 use verdict::Cause;
@@ -37,26 +39,18 @@ pub enum Answer {
 }
 
 // Whether the set is late, and stays so with some task left out.
-pub fn classify<'a>(
-    c: &'a [u32; 24],
-    t: &'a [u32; 24],
-    d: &'a [u32; 24],
-    priority: &'a [u32; 24],
-    higher: &'a [u32; 24],
-    n: usize,
-    set: u32,
-) -> Finding
-    requires { ⌜ InLimits n (now c) (now t) (now d) (now priority) (now higher) set ⌝ }
-    ensures { λ r. ⌜ Checked (tasksOf n (now (c .entry)) (now (t .entry)) (now (d .entry)) (now (priority .entry))) set r ⌝ }
+pub fn classify(timing: &Timing, n: usize, set: u32) -> Finding
+    requires { ⌜ InLimits n (now timing) set ⌝ }
+    ensures { λ r. ⌜ Checked (tasksOf n (now (timing .entry))) set r ⌝ }
 {
-    if !schedule::is_late(c, t, d, priority, higher, n, set) {
+    if !schedule::is_late(timing, n, set) {
         return Finding::NoConflict;
     }
     let mut untried = set;
     while untried != 0 {
         let k = mask::lowest(untried);
         let rest = mask::remove(set, k);
-        if schedule::is_late(c, t, d, priority, higher, n, rest) {
+        if schedule::is_late(timing, n, rest) {
             return Finding::NotMinimal;
         }
         untried = mask::remove(untried, k);
@@ -65,24 +59,16 @@ pub fn classify<'a>(
 }
 
 // A minimal conflict within a late set: each task in turn is dropped if the rest stays late.
-pub fn extract<'a>(
-    c: &'a [u32; 24],
-    t: &'a [u32; 24],
-    d: &'a [u32; 24],
-    priority: &'a [u32; 24],
-    higher: &'a [u32; 24],
-    n: usize,
-    set: u32,
-) -> u32
-    requires { ⌜ InLimits n (now c) (now t) (now d) (now priority) (now higher) set × LateSet (tasksOf n (now c) (now t) (now d) (now priority)) (has set) ⌝ }
-    ensures { λ r. ⌜ MinimalWithin (tasksOf n (now (c .entry)) (now (t .entry)) (now (d .entry)) (now (priority .entry))) set r ⌝ }
+pub fn extract(timing: &Timing, n: usize, set: u32) -> u32
+    requires { ⌜ InLimits n (now timing) set × LateSet (tasksOf n (now timing)) (has set) ⌝ }
+    ensures { λ r. ⌜ MinimalWithin (tasksOf n (now (timing .entry))) set r ⌝ }
 {
     let mut kept = set;
     let mut left = set;
     while left != 0 {
         let k = mask::lowest(left);
         let rest = mask::remove(kept, k);
-        if schedule::is_late(c, t, d, priority, higher, n, rest) {
+        if schedule::is_late(timing, n, rest) {
             kept = rest;
         }
         left = mask::remove(left, k);
@@ -100,12 +86,8 @@ fn check_table(table: Table, mask: u32) -> Answer
     if verdict::bad_group(n, mask) {
         return Answer::Refused(Cause::NoConflictMask, 0);
     }
-    let c = tasks.c;
-    let t = tasks.t;
-    let d = tasks.d;
-    let priority = tasks.priority;
-    let higher = schedule::higher(&priority, n);
-    Answer::Found(classify(&c, &t, &d, &priority, &higher, n, mask))
+    let timing = timing::timing_of(table);
+    Answer::Found(classify(&timing, n, mask))
 }
 
 // Whether a set of the file's tasks is a conflict, and a minimal one.
@@ -122,20 +104,12 @@ pub fn check_conflict(file: &[u8], mask: u32) -> Answer
 }
 
 // 1 where the set names only tasks of the table and is late, else 0.
-fn late_as_number<'a>(
-    c: &'a [u32; 24],
-    t: &'a [u32; 24],
-    d: &'a [u32; 24],
-    priority: &'a [u32; 24],
-    higher: &'a [u32; 24],
-    n: usize,
-    set: u32,
-) -> u64
-    requires { ⌜ InLimits n (now c) (now t) (now d) (now priority) (now higher) 0 ⌝ }
-    ensures { λ r. ⌜ (r ≡ lateAsNumber (tasksOf n (now (c .entry)) (now (t .entry)) (now (d .entry)) (now (priority .entry))) set) × (r ≤ 1) ⌝ }
+fn late_as_number(timing: &Timing, n: usize, set: u32) -> u64
+    requires { ⌜ InLimits n (now timing) 0 ⌝ }
+    ensures { λ r. ⌜ (r ≡ lateAsNumber (tasksOf n (now (timing .entry))) set) × (r ≤ 1) ⌝ }
 {
     if mask::only_below(set, n) {
-        if schedule::is_late(c, t, d, priority, higher, n, set) {
+        if schedule::is_late(timing, n, set) {
             return 1;
         }
     }
@@ -149,15 +123,11 @@ fn count_late_of(table: Table, sets: &[u32]) -> u64
 {
     let tasks = table.tasks;
     let n = tasks.count;
-    let c = tasks.c;
-    let t = tasks.t;
-    let d = tasks.d;
-    let priority = tasks.priority;
-    let higher = schedule::higher(&priority, n);
+    let timing = timing::timing_of(table);
     let mut count: u64 = 0;
     let mut j: usize = 0;
     while j < sets.len() {
-        count += late_as_number(&c, &t, &d, &priority, &higher, n, sets[j]);
+        count += late_as_number(&timing, n, sets[j]);
         j += 1;
     }
     count

@@ -5,7 +5,7 @@ use mathlib.Core.List.{List}
 use Prim.Native.Nat.{ℕ}
 use Rattle.table.specs.declared.Table.{Table}
 use Rattle.schedule.specs.Periodic.{LateSet}
-use Rattle.conflict.specs.Entry.{tasksIn}
+use Rattle.timing.specs.Timing.{tasksIn}
 use Rattle.ledger.specs.Ledger.{Ledger, Grows, Covered, Clear}
 use Rattle.region.specs.Region.{Within, Refuted, Met, Witness}
 use Rattle.seek.specs.declared.Sought.{Sought}

@@ -3,3 +3,4 @@ pub mod Only
 pub mod Some
 pub mod First
 pub mod Search
+pub mod Stored

@@ -19,8 +19,8 @@ use Rattle.schedule.proofs.LateSets.{late-within}
 use Rattle.rules.specs.Placement.{andTask, Part}
 use Rattle.rules.specs.Sets.{standing}
 use Rattle.rules.proofs.Monotone.{keeps-part}
-use Rattle.conflict.specs.Entry.{tasksIn}
-use Rattle.judge.proofs.Limits.{valid-tasks, constrained-tasks}
+use Rattle.timing.specs.Timing.{tasksIn}
+use Rattle.timing.proofs.Limits.{valid-tasks, constrained-tasks}
 use Rattle.ledger.specs.Ledger.{Ledger, Covered}
 use Rattle.ledger.proofs.Growth.{grows-refl}
 use Rattle.partial.specs.declared.State.{State}

@@ -12,10 +12,16 @@ ghost use Rattle.region.specs.Begins.{Begins, Ready};
 ghost use Rattle.deciding.specs.Deciding.{DecidedAs, CoveringAs};
 ghost use Rattle.memo.specs.Memo.{Learnt};
 ghost use Rattle.first.specs.First.{Placing, PassedBelow, TriedAs, FirstOf};
+use columns::Columns;
+use columns::Messages;
 use deciding::Covering;
 use deciding::Decided;
+use known::Known;
+use ledger::Mode;
+use memo::Memo;
 use partial::Sizes;
 use partial::State;
+use schedule::Timing;
 
 // A task on a processor: whether it is taken, the sets of a good placement, how many conflicts are listed, and whether the list is cut.
 pub struct Tried {
@@ -34,55 +40,38 @@ pub struct Reached {
 
 // Whether a good placement has task k on processor p.
 fn decide_on<'a>(
-    work: &'a [u32; 24],
-    period: &'a [u32; 24],
-    deadline: &'a [u32; 24],
-    priority: &'a [u32; 24],
-    higher: &'a [u32; 24],
-    residence: &'a [u32; 24],
-    memory: &'a [u32; 24],
-    exclusions: &'a [u32; 24],
-    co: &'a [u32; 16],
-    sender: &'a [u32; 64],
-    receiver: &'a [u32; 64],
-    loads: &'a [u64; 24],
-    amounts: &'a [u64; 64],
-    guide: &'a [u32; 120],
+    timing: &'a Timing,
+    columns: &'a Columns,
+    messages: &'a Messages,
     sizes: Sizes,
     s: State,
     k: usize,
     p: usize,
     notes: &mut [u32],
-    known: &mut [u32; 16384],
-    memo: &mut [u64; 12288],
+    known: &mut Known,
+    memo: &mut Memo,
 ) -> Decided
-    requires { ⌜ ((t : Table) × Lends t sizes (now work) (now period) (now deadline) (now priority) (now higher) (now residence) (now memory) (now exclusions) (now co) (now sender) (now receiver) (now loads) (now amounts) × Ready t s × Learnt t (now guide) (now known) (now memo)) × T (has (s .left) k) × (p < sizes .processors) × (64 ≤ length (now notes)) ⌝ }
-    ensures { λ r. ⌜ ((t : Table) → Lends t sizes (now (work .entry)) (now (period .entry)) (now (deadline .entry)) (now (priority .entry)) (now (higher .entry)) (now (residence .entry)) (now (memory .entry)) (now (exclusions .entry)) (now (co .entry)) (now (sender .entry)) (now (receiver .entry)) (now (loads .entry)) (now (amounts .entry))
-        → Ready t s → Learnt t (now (guide .entry)) (now (known .entry)) (now (memo .entry)) → DecidedAs (r .found) t (andTask (standing (s .on)) k p) (r .on) × Learnt t (now (guide .entry)) (now (known .exit)) (now (memo .exit))) ⌝ }
+    requires { ⌜ ((t : Table) × Lends t sizes (now timing) (now columns) (now messages) × Ready t s × Learnt t (now columns) (now known) (now memo)) × T (has (s .left) k) × (p < sizes .processors) × (64 ≤ length (now notes)) ⌝ }
+    ensures { λ r. ⌜ ((t : Table) → Lends t sizes (now (timing .entry)) (now (columns .entry)) (now (messages .entry))
+        → Ready t s → Learnt t (now (columns .entry)) (now (known .entry)) (now (memo .entry)) → DecidedAs (r .found) t (andTask (standing (s .on)) k p) (r .on) × Learnt t (now (columns .entry)) (now (known .exit)) (now (memo .exit))) ⌝ }
 {
     // Deciding lists nothing: it is lent a list without places.
     let mut no_list = [0u8; 3];
+    let mode = Mode {
+        listing: false,
+        places: 0,
+        limited: true,
+    };
     let entered = seek::enter(
-        work,
-        period,
-        deadline,
-        priority,
-        higher,
-        residence,
-        memory,
-        exclusions,
-        co,
-        sender,
-        receiver,
-        loads,
-        amounts,
+        timing,
+        columns,
+        messages,
         sizes,
         s,
         k,
         p,
-        false,
+        mode,
         &mut no_list,
-        0,
         0,
         known,
     );
@@ -91,45 +80,14 @@ fn decide_on<'a>(
         let on = s.on;
         return Decided { found: false, on };
     }
-    deciding::decide(
-        work,
-        period,
-        deadline,
-        priority,
-        higher,
-        residence,
-        memory,
-        exclusions,
-        co,
-        sender,
-        receiver,
-        loads,
-        amounts,
-        guide,
-        sizes,
-        next,
-        notes,
-        known,
-        memo,
-    )
+    deciding::decide(timing, columns, messages, sizes, next, notes, known, memo)
 }
 
 // The region of task k on processor p, which has no good placement, is passed over: its conflicts are listed.
 fn pass_over<'a>(
-    work: &'a [u32; 24],
-    period: &'a [u32; 24],
-    deadline: &'a [u32; 24],
-    priority: &'a [u32; 24],
-    higher: &'a [u32; 24],
-    residence: &'a [u32; 24],
-    memory: &'a [u32; 24],
-    exclusions: &'a [u32; 24],
-    co: &'a [u32; 16],
-    sender: &'a [u32; 64],
-    receiver: &'a [u32; 64],
-    loads: &'a [u64; 24],
-    amounts: &'a [u64; 64],
-    guide: &'a [u32; 120],
+    timing: &'a Timing,
+    columns: &'a Columns,
+    messages: &'a Messages,
     sizes: Sizes,
     s: State,
     k: usize,
@@ -138,34 +96,28 @@ fn pass_over<'a>(
     places: usize,
     count: usize,
     notes: &mut [u32],
-    known: &mut [u32; 16384],
-    memo: &mut [u64; 12288],
+    known: &mut Known,
+    memo: &mut Memo,
 ) -> Covering
-    requires { ⌜ ((t : Table) × Lends t sizes (now work) (now period) (now deadline) (now priority) (now higher) (now residence) (now memory) (now exclusions) (now co) (now sender) (now receiver) (now loads) (now amounts) × Begins t true places s (now list) count × Learnt t (now guide) (now known) (now memo)) × T (has (s .left) k) × (p < sizes .processors) × (64 ≤ length (now notes)) ⌝ }
-    ensures { λ r. ⌜ ((t : Table) → Lends t sizes (now (work .entry)) (now (period .entry)) (now (deadline .entry)) (now (priority .entry)) (now (higher .entry)) (now (residence .entry)) (now (memory .entry)) (now (exclusions .entry)) (now (co .entry)) (now (sender .entry)) (now (receiver .entry)) (now (loads .entry)) (now (amounts .entry))
-        → Begins t true places s (now (list .entry)) count → Learnt t (now (guide .entry)) (now (known .entry)) (now (memo .entry)) → CoveringAs t places (andTask (standing (s .on)) k p) (now (list .entry)) count (now (list .exit)) r × Learnt t (now (guide .entry)) (now (known .exit)) (now (memo .exit))) ⌝ }
+    requires { ⌜ ((t : Table) × Lends t sizes (now timing) (now columns) (now messages) × Begins t true places s (now list) count × Learnt t (now columns) (now known) (now memo)) × T (has (s .left) k) × (p < sizes .processors) × (64 ≤ length (now notes)) ⌝ }
+    ensures { λ r. ⌜ ((t : Table) → Lends t sizes (now (timing .entry)) (now (columns .entry)) (now (messages .entry))
+        → Begins t true places s (now (list .entry)) count → Learnt t (now (columns .entry)) (now (known .entry)) (now (memo .entry)) → CoveringAs t places (andTask (standing (s .on)) k p) (now (list .entry)) count (now (list .exit)) r × Learnt t (now (columns .entry)) (now (known .exit)) (now (memo .exit))) ⌝ }
 {
+    let mode = Mode {
+        listing: true,
+        places,
+        limited: false,
+    };
     let entered = seek::enter(
-        work,
-        period,
-        deadline,
-        priority,
-        higher,
-        residence,
-        memory,
-        exclusions,
-        co,
-        sender,
-        receiver,
-        loads,
-        amounts,
+        timing,
+        columns,
+        messages,
         sizes,
         s,
         k,
         p,
-        true,
+        mode,
         list,
-        places,
         count,
         known,
     );
@@ -177,20 +129,9 @@ fn pass_over<'a>(
         };
     }
     deciding::cover(
-        work,
-        period,
-        deadline,
-        priority,
-        higher,
-        residence,
-        memory,
-        exclusions,
-        co,
-        sender,
-        receiver,
-        loads,
-        amounts,
-        guide,
+        timing,
+        columns,
+        messages,
         sizes,
         next,
         list,
@@ -206,20 +147,9 @@ fn pass_over<'a>(
 // Otherwise the region is passed over, and its conflicts are listed unless the list is cut already.
 // Where p is interchangeable with a lower processor, which was passed over, that holds of p too.
 fn try_processor<'a>(
-    work: &'a [u32; 24],
-    period: &'a [u32; 24],
-    deadline: &'a [u32; 24],
-    priority: &'a [u32; 24],
-    higher: &'a [u32; 24],
-    residence: &'a [u32; 24],
-    memory: &'a [u32; 24],
-    exclusions: &'a [u32; 24],
-    co: &'a [u32; 16],
-    sender: &'a [u32; 64],
-    receiver: &'a [u32; 64],
-    loads: &'a [u64; 24],
-    amounts: &'a [u64; 64],
-    guide: &'a [u32; 120],
+    timing: &'a Timing,
+    columns: &'a Columns,
+    messages: &'a Messages,
     sizes: Sizes,
     s: State,
     k: usize,
@@ -230,12 +160,12 @@ fn try_processor<'a>(
     count: usize,
     cut: bool,
     notes: &mut [u32],
-    known: &mut [u32; 16384],
-    memo: &mut [u64; 12288],
+    known: &mut Known,
+    memo: &mut Memo,
 ) -> Tried
-    requires { ⌜ ((t : Table) × Lends t sizes (now work) (now period) (now deadline) (now priority) (now higher) (now residence) (now memory) (now exclusions) (now co) (now sender) (now receiver) (now loads) (now amounts) × Placing t places s k witness (now list) count × PassedBelow t s k p (now list) count cut × Learnt t (now guide) (now known) (now memo)) × (k < sizes .tasks) × (p < sizes .processors) × (64 ≤ length (now notes)) ⌝ }
-    ensures { λ r. ⌜ ((t : Table) → Lends t sizes (now (work .entry)) (now (period .entry)) (now (deadline .entry)) (now (priority .entry)) (now (higher .entry)) (now (residence .entry)) (now (memory .entry)) (now (exclusions .entry)) (now (co .entry)) (now (sender .entry)) (now (receiver .entry)) (now (loads .entry)) (now (amounts .entry))
-        → Placing t places s k witness (now (list .entry)) count → PassedBelow t s k p (now (list .entry)) count cut → Learnt t (now (guide .entry)) (now (known .entry)) (now (memo .entry)) → TriedAs t places s k p witness (now (list .entry)) count cut (now (list .exit)) r × Learnt t (now (guide .entry)) (now (known .exit)) (now (memo .exit))) ⌝ }
+    requires { ⌜ ((t : Table) × Lends t sizes (now timing) (now columns) (now messages) × Placing t places s k witness (now list) count × PassedBelow t s k p (now list) count cut × Learnt t (now columns) (now known) (now memo)) × (k < sizes .tasks) × (p < sizes .processors) × (64 ≤ length (now notes)) ⌝ }
+    ensures { λ r. ⌜ ((t : Table) → Lends t sizes (now (timing .entry)) (now (columns .entry)) (now (messages .entry))
+        → Placing t places s k witness (now (list .entry)) count → PassedBelow t s k p (now (list .entry)) count cut → Learnt t (now (columns .entry)) (now (known .entry)) (now (memo .entry)) → TriedAs t places s k p witness (now (list .entry)) count cut (now (list .exit)) r × Learnt t (now (columns .entry)) (now (known .exit)) (now (memo .exit))) ⌝ }
 {
     if mask::has(witness[p], k) {
         return Tried {
@@ -245,7 +175,7 @@ fn try_processor<'a>(
             cut,
         };
     }
-    if twin::twin(residence, memory, loads, s, p) < p {
+    if twin::twin(columns, s, p) < p {
         return Tried {
             taken: false,
             on: witness,
@@ -254,20 +184,9 @@ fn try_processor<'a>(
         };
     }
     let decided = decide_on(
-        work,
-        period,
-        deadline,
-        priority,
-        higher,
-        residence,
-        memory,
-        exclusions,
-        co,
-        sender,
-        receiver,
-        loads,
-        amounts,
-        guide,
+        timing,
+        columns,
+        messages,
         sizes,
         s,
         k,
@@ -294,20 +213,9 @@ fn try_processor<'a>(
         };
     }
     let listed = pass_over(
-        work,
-        period,
-        deadline,
-        priority,
-        higher,
-        residence,
-        memory,
-        exclusions,
-        co,
-        sender,
-        receiver,
-        loads,
-        amounts,
-        guide,
+        timing,
+        columns,
+        messages,
         sizes,
         s,
         k,
@@ -329,20 +237,9 @@ fn try_processor<'a>(
 
 // The search of document 01: task by task, processors in rising number, calling itself for the next task.
 pub fn first<'a>(
-    work: &'a [u32; 24],
-    period: &'a [u32; 24],
-    deadline: &'a [u32; 24],
-    priority: &'a [u32; 24],
-    higher: &'a [u32; 24],
-    residence: &'a [u32; 24],
-    memory: &'a [u32; 24],
-    exclusions: &'a [u32; 24],
-    co: &'a [u32; 16],
-    sender: &'a [u32; 64],
-    receiver: &'a [u32; 64],
-    loads: &'a [u64; 24],
-    amounts: &'a [u64; 64],
-    guide: &'a [u32; 120],
+    timing: &'a Timing,
+    columns: &'a Columns,
+    messages: &'a Messages,
     sizes: Sizes,
     s: State,
     k: usize,
@@ -352,12 +249,12 @@ pub fn first<'a>(
     count: usize,
     cut: bool,
     notes: &mut [u32],
-    known: &mut [u32; 16384],
-    memo: &mut [u64; 12288],
+    known: &mut Known,
+    memo: &mut Memo,
 ) -> Reached
-    requires { ⌜ ((t : Table) × Lends t sizes (now work) (now period) (now deadline) (now priority) (now higher) (now residence) (now memory) (now exclusions) (now co) (now sender) (now receiver) (now loads) (now amounts) × Placing t places s k witness (now list) count × Learnt t (now guide) (now known) (now memo)) × (64 ≤ length (now notes)) ⌝ }
-    ensures { λ r. ⌜ ((t : Table) → Lends t sizes (now (work .entry)) (now (period .entry)) (now (deadline .entry)) (now (priority .entry)) (now (higher .entry)) (now (residence .entry)) (now (memory .entry)) (now (exclusions .entry)) (now (co .entry)) (now (sender .entry)) (now (receiver .entry)) (now (loads .entry)) (now (amounts .entry))
-        → Placing t places s k witness (now (list .entry)) count → Learnt t (now (guide .entry)) (now (known .entry)) (now (memo .entry)) → FirstOf t places s (now (list .entry)) count cut (now (list .exit)) r × Learnt t (now (guide .entry)) (now (known .exit)) (now (memo .exit))) ⌝ }
+    requires { ⌜ ((t : Table) × Lends t sizes (now timing) (now columns) (now messages) × Placing t places s k witness (now list) count × Learnt t (now columns) (now known) (now memo)) × (64 ≤ length (now notes)) ⌝ }
+    ensures { λ r. ⌜ ((t : Table) → Lends t sizes (now (timing .entry)) (now (columns .entry)) (now (messages .entry))
+        → Placing t places s k witness (now (list .entry)) count → Learnt t (now (columns .entry)) (now (known .entry)) (now (memo .entry)) → FirstOf t places s (now (list .entry)) count cut (now (list .exit)) r × Learnt t (now (columns .entry)) (now (known .exit)) (now (memo .exit))) ⌝ }
 {
     let on = s.on;
     if k == sizes.tasks {
@@ -368,20 +265,9 @@ pub fn first<'a>(
     let mut p: usize = 0;
     while p < sizes.processors {
         let tried = try_processor(
-            work,
-            period,
-            deadline,
-            priority,
-            higher,
-            residence,
-            memory,
-            exclusions,
-            co,
-            sender,
-            receiver,
-            loads,
-            amounts,
-            guide,
+            timing,
+            columns,
+            messages,
             sizes,
             s,
             k,
@@ -398,37 +284,13 @@ pub fn first<'a>(
         at = tried.count;
         marked = tried.cut;
         if tried.taken {
-            let step = partial::step(
-                residence,
-                memory,
-                exclusions,
-                co,
-                sender,
-                receiver,
-                loads,
-                amounts,
-                sizes,
-                s,
-                k,
-                p,
-            );
+            let step = partial::step(columns, messages, sizes, s, k, p);
             let next = step.next;
             let held = tried.on;
             return first(
-                work,
-                period,
-                deadline,
-                priority,
-                higher,
-                residence,
-                memory,
-                exclusions,
-                co,
-                sender,
-                receiver,
-                loads,
-                amounts,
-                guide,
+                timing,
+                columns,
+                messages,
                 sizes,
                 next,
                 k + 1,

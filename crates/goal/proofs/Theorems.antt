@@ -9,7 +9,7 @@ use lib.ListN.{length, getD}
 use Rattle.table.specs.declared.Table.{Table}
 use Rattle.table.specs.Sound.{Sound}
 use Rattle.conflict.specs.Conflict.{Minimal}
-use Rattle.conflict.specs.Entry.{tasksIn}
+use Rattle.timing.specs.Timing.{tasksIn}
 use Rattle.rules.specs.Placement.{placed}
 use Rattle.rules.specs.Rules.{Keeps}
 use Rattle.judge.specs.Judge.{PlacementOf}

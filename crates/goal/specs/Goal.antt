@@ -9,7 +9,7 @@ use Rattle.finite.specs.Finite.{someBelow, firstBelow}
 use Rattle.mask.specs.Mask.{within}
 use Rattle.table.specs.declared.Table.{Table}
 use Rattle.conflict.specs.Conflict.{Minimal}
-use Rattle.conflict.specs.Entry.{tasksIn}
+use Rattle.timing.specs.Timing.{tasksIn}
 use Rattle.rules.specs.declared.Check.{Check}
 use Rattle.rules.specs.declared.Check.the-variants.{Kept, Broken}
 use Rattle.rules.specs.Placement.{placed}

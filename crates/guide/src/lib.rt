@@ -1,10 +1,26 @@
 // The weights that guide the search: how large each task is, and how hard to place.
 ghost use mathlib.Core.Path.{_≡_};
-ghost use Prim.Native.Nat.{_≤_, _<_};
-ghost use lib.ListN.{length};
+ghost use Prim.Native.Nat.{ℕ, _≤_, _<_};
+ghost use lib.ListN.{getD};
 ghost use Rattle.schedule.specs.Arrays.{InLimits};
+ghost use Rattle.guide.specs.Guided.{Guided};
+use columns::AMOUNT;
+use columns::BASE;
+use columns::Columns;
+use columns::EXCLUSIONS;
+use columns::LOAD;
+use columns::MEMORY;
+use columns::Messages;
+use columns::ORDER;
+use columns::RECEIVER;
+use columns::RESIDENCE;
+use columns::SENDER;
+use columns::WEIGHT;
 use partial::Sizes;
 use partial::State;
+use schedule::DEADLINE;
+use schedule::Timing;
+use schedule::WORK;
 
 // x as a wider number.
 fn wide(x: u32) -> u64
@@ -49,7 +65,9 @@ fn millionths(x: u64, all: u64) -> u64
 }
 
 // The millionths of all load and of all memory that each task takes, together.
-fn weights_of<'a>(memory: &'a [u32; 24], loads: &'a [u64; 24], s: State) -> [u32; 24] {
+fn weights_of(columns: &Columns, s: State) -> [u32; 24]
+    ensures { λ r. ⌜ ((k : ℕ) → getD r k 0 < 4294967296) ⌝ }
+{
     let memory_rooms = s.memory;
     let load_rooms = s.load;
     let all_memory = total(memory_rooms);
@@ -57,7 +75,8 @@ fn weights_of<'a>(memory: &'a [u32; 24], loads: &'a [u64; 24], s: State) -> [u32
     let mut weights = [0u32; 24];
     let mut k: usize = 0;
     while k < 24 {
-        let sum = millionths(loads[k], all_load) + millionths(wide(memory[k]), all_memory);
+        let sum = millionths(wide(columns[LOAD][k]), all_load)
+            + millionths(wide(columns[MEMORY][k]), all_memory);
         weights[k] = (sum % 4294967296) as u32;
         k += 1;
     }
@@ -88,41 +107,25 @@ fn rank(weights: &[u32; 24], k: usize) -> usize
 }
 
 // Whether tasks i and j may reside on processor p, and it has the memory and the load for both.
-fn takes_both<'a>(
-    residence: &'a [u32; 24],
-    memory: &'a [u32; 24],
-    loads: &'a [u64; 24],
-    s: State,
-    i: usize,
-    j: usize,
-    p: usize,
-) -> bool
+fn takes_both(columns: &Columns, s: State, i: usize, j: usize, p: usize) -> bool
     requires { ⌜ (i < 24) × (j < 24) × (p < 8) ⌝ }
 {
-    if !mask::has(residence[i] & residence[j], p) {
+    if !mask::has(columns[RESIDENCE][i] & columns[RESIDENCE][j], p) {
         return false;
     }
-    if s.memory[p] < wide(memory[i]) + wide(memory[j]) {
+    if s.memory[p] < wide(columns[MEMORY][i]) + wide(columns[MEMORY][j]) {
         return false;
     }
-    short(loads[i]) + short(loads[j]) <= s.load[p]
+    wide(columns[LOAD][i]) + wide(columns[LOAD][j]) <= s.load[p]
 }
 
 // Whether no processor takes both tasks.
-fn nowhere<'a>(
-    residence: &'a [u32; 24],
-    memory: &'a [u32; 24],
-    loads: &'a [u64; 24],
-    s: State,
-    processors: usize,
-    i: usize,
-    j: usize,
-) -> bool
+fn nowhere(columns: &Columns, s: State, processors: usize, i: usize, j: usize) -> bool
     requires { ⌜ (processors ≤ 8) × (i < 24) × (j < 24) ⌝ }
 {
     let mut p: usize = 0;
     while p < processors {
-        if takes_both(residence, memory, loads, s, i, j, p) {
+        if takes_both(columns, s, i, j, p) {
             return false;
         }
         p += 1;
@@ -131,89 +134,46 @@ fn nowhere<'a>(
 }
 
 // Whether tasks i and j are late as a pair.
-fn late_pair<'a>(
-    work: &'a [u32; 24],
-    period: &'a [u32; 24],
-    deadline: &'a [u32; 24],
-    priority: &'a [u32; 24],
-    higher: &'a [u32; 24],
-    n: usize,
-    i: usize,
-    j: usize,
-) -> bool
-    requires { ⌜ InLimits n (now work) (now period) (now deadline) (now priority) (now higher) 0 × (i < n) × (j < n) ⌝ }
+fn late_pair(timing: &Timing, n: usize, i: usize, j: usize) -> bool
+    requires { ⌜ InLimits n (now timing) 0 × (i < n) × (j < n) ⌝ }
 {
     let pair = mask::insert(mask::insert(0, i), j);
-    schedule::is_late(work, period, deadline, priority, higher, n, pair)
+    schedule::is_late(timing, n, pair)
 }
 
 // Whether i and j are two tasks that can never stand on one processor.
 fn apart<'a>(
-    work: &'a [u32; 24],
-    period: &'a [u32; 24],
-    deadline: &'a [u32; 24],
-    priority: &'a [u32; 24],
-    higher: &'a [u32; 24],
-    residence: &'a [u32; 24],
-    memory: &'a [u32; 24],
-    exclusions: &'a [u32; 24],
-    loads: &'a [u64; 24],
+    timing: &'a Timing,
+    columns: &'a Columns,
     sizes: Sizes,
     s: State,
     i: usize,
     j: usize,
 ) -> bool
-    requires { ⌜ InLimits (sizes .tasks) (now work) (now period) (now deadline) (now priority) (now higher) 0 × (sizes .processors ≤ 8) × (i < sizes .tasks) × (j < sizes .tasks) ⌝ }
+    requires { ⌜ InLimits (sizes .tasks) (now timing) 0 × (sizes .processors ≤ 8) × (i < sizes .tasks) × (j < sizes .tasks) ⌝ }
 {
     if i == j {
         return false;
     }
-    if mask::has(exclusions[i], j) {
+    if mask::has(columns[EXCLUSIONS][i], j) {
         return true;
     }
-    if nowhere(residence, memory, loads, s, sizes.processors, i, j) {
+    if nowhere(columns, s, sizes.processors, i, j) {
         return true;
     }
-    late_pair(work, period, deadline, priority, higher, sizes.tasks, i, j)
+    late_pair(timing, sizes.tasks, i, j)
 }
 
 // How many tasks can never stand beside task i.
-fn strangers<'a>(
-    work: &'a [u32; 24],
-    period: &'a [u32; 24],
-    deadline: &'a [u32; 24],
-    priority: &'a [u32; 24],
-    higher: &'a [u32; 24],
-    residence: &'a [u32; 24],
-    memory: &'a [u32; 24],
-    exclusions: &'a [u32; 24],
-    loads: &'a [u64; 24],
-    sizes: Sizes,
-    s: State,
-    i: usize,
-) -> u64
-    requires { ⌜ InLimits (sizes .tasks) (now work) (now period) (now deadline) (now priority) (now higher) 0 × (sizes .processors ≤ 8) × (i < sizes .tasks) ⌝ }
+fn strangers<'a>(timing: &'a Timing, columns: &'a Columns, sizes: Sizes, s: State, i: usize) -> u64
+    requires { ⌜ InLimits (sizes .tasks) (now timing) 0 × (sizes .processors ≤ 8) × (i < sizes .tasks) ⌝ }
     ensures { λ r. ⌜ r ≤ 24 ⌝ }
 {
     let n = sizes.tasks;
     let mut count: u64 = 0;
     let mut j: usize = 0;
     while j < n {
-        if apart(
-            work,
-            period,
-            deadline,
-            priority,
-            higher,
-            residence,
-            memory,
-            exclusions,
-            loads,
-            sizes,
-            s,
-            i,
-            j,
-        ) {
+        if apart(timing, columns, sizes, s, i, j) {
             count += 1;
         }
         j += 1;
@@ -222,7 +182,7 @@ fn strangers<'a>(
 }
 
 // A message of the task as a share of the network, in 32nds.
-fn message_weight(from: u32, to: u32, task: u32, amount: u64, capacity: u64) -> u64
+fn message_weight(from: u64, to: u64, task: u64, amount: u64, capacity: u64) -> u64
     ensures { λ r. ⌜ r ≤ 4096 ⌝ }
 {
     if from != task {
@@ -237,21 +197,16 @@ fn message_weight(from: u32, to: u32, task: u32, amount: u64, capacity: u64) -> 
 }
 
 // All messages of the task.
-fn messages_weight<'a>(
-    sender: &'a [u32; 64],
-    receiver: &'a [u32; 64],
-    amounts: &'a [u64; 64],
-    messages: usize,
-    capacity: u64,
-    task: u32,
-) -> u64
-    requires { ⌜ messages ≤ 64 ⌝ }
+fn messages_weight(messages: &Messages, count: usize, capacity: u64, task: u64) -> u64
+    requires { ⌜ count ≤ 64 ⌝ }
     ensures { λ r. ⌜ r ≤ 262144 ⌝ }
 {
     let mut sum: u64 = 0;
     let mut j: usize = 0;
-    while j < messages {
-        sum += message_weight(sender[j], receiver[j], task, amounts[j], capacity);
+    while j < count {
+        let from = messages[SENDER][j];
+        let to = messages[RECEIVER][j];
+        sum += message_weight(from, to, task, messages[AMOUNT][j], capacity);
         j += 1;
     }
     sum
@@ -276,13 +231,13 @@ fn scaled(part: u64, processors: usize) -> u64
 }
 
 // The load or the memory of a task, whichever is the larger share.
-fn bulk(load: u64, memory: u32, s: State, processors: usize) -> u64
+fn bulk(load: u32, memory: u32, s: State, processors: usize) -> u64
     requires { ⌜ processors ≤ 8 ⌝ }
     ensures { λ r. ⌜ r ≤ 256 ⌝ }
 {
     let memory_rooms = s.memory;
     let load_rooms = s.load;
-    let by_load = scaled(millionths(load, total(load_rooms)), processors);
+    let by_load = scaled(millionths(wide(load), total(load_rooms)), processors);
     let by_memory = scaled(millionths(wide(memory), total(memory_rooms)), processors);
     if by_load < by_memory {
         by_memory
@@ -293,105 +248,59 @@ fn bulk(load: u64, memory: u32, s: State, processors: usize) -> u64
 
 // How hard each task is to place, where nothing stands yet: the search places the hardest first.
 fn bases_of<'a>(
-    work: &'a [u32; 24],
-    period: &'a [u32; 24],
-    deadline: &'a [u32; 24],
-    priority: &'a [u32; 24],
-    higher: &'a [u32; 24],
-    residence: &'a [u32; 24],
-    memory: &'a [u32; 24],
-    exclusions: &'a [u32; 24],
-    sender: &'a [u32; 64],
-    receiver: &'a [u32; 64],
-    loads: &'a [u64; 24],
-    amounts: &'a [u64; 64],
+    timing: &'a Timing,
+    columns: &'a Columns,
+    messages: &'a Messages,
     sizes: Sizes,
     s: State,
 ) -> [u32; 24]
-    requires { ⌜ InLimits (sizes .tasks) (now work) (now period) (now deadline) (now priority) (now higher) 0 × (sizes .processors ≤ 8) × (sizes .messages ≤ 64) ⌝ }
+    requires { ⌜ InLimits (sizes .tasks) (now timing) 0 × (sizes .processors ≤ 8) × (sizes .messages ≤ 64) ⌝ }
 {
     let n = sizes.tasks;
     let mut bases = [0u32; 24];
     let mut k: usize = 0;
     while k < n {
-        let others = strangers(
-            work,
-            period,
-            deadline,
-            priority,
-            higher,
-            residence,
-            memory,
-            exclusions,
-            loads,
-            sizes,
-            s,
-            k,
-        );
-        let size = bulk(loads[k], memory[k], s, sizes.processors);
-        let messages = messages_weight(
-            sender,
-            receiver,
-            amounts,
-            sizes.messages,
-            s.traffic,
-            (k % 24) as u32,
-        );
-        let base = 16 + 16 * others + size + density(work[k], deadline[k]) + messages;
+        let others = strangers(timing, columns, sizes, s, k);
+        let size = bulk(columns[LOAD][k], columns[MEMORY][k], s, sizes.processors);
+        let sent = messages_weight(messages, sizes.messages, s.traffic, k as u64);
+        let density = density(timing[WORK][k], timing[DEADLINE][k]);
+        let base = 16 + 16 * others + size + density + sent;
         bases[k] = (base % 4294967296) as u32;
         k += 1;
     }
     bases
 }
 
-// Five rows of 24 numbers: for each task its weight by load, by memory and by both, the tasks by falling weight, and how hard each is to place.
-// Nothing is claimed of the numbers: no answer rests on them, only how long the search takes. Remainders keep them small whatever the columns hold.
-pub fn guide_of<'a>(
-    work: &'a [u32; 24],
-    period: &'a [u32; 24],
-    deadline: &'a [u32; 24],
-    priority: &'a [u32; 24],
-    higher: &'a [u32; 24],
-    residence: &'a [u32; 24],
-    memory: &'a [u32; 24],
-    exclusions: &'a [u32; 24],
-    sender: &'a [u32; 64],
-    receiver: &'a [u32; 64],
-    loads: &'a [u64; 24],
-    amounts: &'a [u64; 64],
-    sizes: Sizes,
-    s: State,
-) -> [u32; 120]
-    requires { ⌜ InLimits (sizes .tasks) (now work) (now period) (now deadline) (now priority) (now higher) 0 × (sizes .processors ≤ 8) × (sizes .messages ≤ 64) ⌝ }
-    ensures { λ r. ⌜ length r ≡ 120 ⌝ }
-{
-    let weights = weights_of(memory, loads, s);
-    let bases = bases_of(
-        work,
-        period,
-        deadline,
-        priority,
-        higher,
-        residence,
-        memory,
-        exclusions,
-        sender,
-        receiver,
-        loads,
-        amounts,
-        sizes,
-        s,
-    );
-    let mut guide = [0u32; 120];
+// The tasks by falling weight.
+fn order_of(weights: &[u32; 24]) -> [u32; 24] {
+    let mut order = [0u32; 24];
     let mut k: usize = 0;
     while k < 24 {
-        let place = 72 + rank(&weights, k) % 24;
-        guide[k] = (loads[k] % 4294967296) as u32;
-        guide[24 + k] = memory[k];
-        guide[48 + k] = weights[k];
-        guide[place] = (k % 24) as u32;
-        guide[96 + k] = bases[k];
+        let place = rank(weights, k) % 24;
+        order[place] = k as u32;
         k += 1;
     }
-    guide
+    order
+}
+
+// The columns with the rows that guide the search: how large each task is, the tasks in that order, and how hard each is to place.
+// Nothing is claimed of these numbers: no answer rests on them, only how long the search takes.
+pub fn guided<'a>(
+    timing: &'a Timing,
+    columns: &'a Columns,
+    messages: &'a Messages,
+    sizes: Sizes,
+    s: State,
+) -> Columns
+    requires { ⌜ InLimits (sizes .tasks) (now timing) 0 × (sizes .processors ≤ 8) × (sizes .messages ≤ 64) ⌝ }
+    ensures { λ r. ⌜ Guided (now (columns .entry)) r ⌝ }
+{
+    let weights = weights_of(columns, s);
+    let order = order_of(&weights);
+    let bases = bases_of(timing, columns, messages, sizes, s);
+    let mut rows = *columns;
+    rows[WEIGHT] = weights;
+    rows[ORDER] = order;
+    rows[BASE] = bases;
+    rows
 }

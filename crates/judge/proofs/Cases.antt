@@ -25,13 +25,14 @@ use Rattle.table.proofs.EncodedBytes.{encode-bytes}
 use Rattle.schedule.specs.Periodic.{LateSet}
 use Rattle.schedule.specs.Response.{response, leastSolution, demand, ceil, lateTest}
 use Rattle.schedule.proofs.LateSets.{late-test}
+use Rattle.timing.specs.Timing.{tasksIn}
+use Rattle.timing.proofs.Limits.{valid-tasks, constrained-tasks}
 use Rattle.rules.specs.declared.Rule.the-variants.{Memory, Utilisation, Network, Deadline}
 use Rattle.rules.specs.Placement.{elsewhere, apart, together, somePair}
 use Rattle.rules.specs.Rules.{firstBroken, checkRule, residenceBroken, coResidenceBroken, exclusionBroken, memoryBroken, memoryOn, utilisationBroken, loadOn, networkBroken, traffic}
 use Rattle.judge.specs.declared.Judgement.{Judgement}
 use Rattle.judge.specs.declared.Judgement.the-variants.{Kept, Broken}
-use Rattle.judge.specs.Judge.{scheduledTasks, judgeOf, judgedOn, firstUnknown, responsesOf}
-use Rattle.judge.proofs.Limits.{valid-tasks, constrained-tasks}
+use Rattle.judge.specs.Judge.{judgeOf, judgedOn, firstUnknown, responsesOf}
 
 -- ---- a row of the table
 
@@ -107,8 +108,8 @@ fileOf k = encode (tableFor k)
 
 -- 01: a conflict is a late set; it is minimal if it is not late with any one task left out
 pub record MinimalConflict (t : Table) (set : ℕ) : Type 0 where
-  pub late : LateSet (scheduledTasks t) (has set)
-  pub minimal : (k : ℕ) → T (has set k) → LateSet (scheduledTasks t) (has (removeOf set k)) → ⊥
+  pub late : LateSet (tasksIn t) (has set)
+  pub minimal : (k : ℕ) → T (has set k) → LateSet (tasksIn t) (has (removeOf set k)) → ⊥
 
 abbrev pub Claimed : List ℕ → Claim → Type 0
 Claimed file (judged q answer responses) = judgeOf file q ≡ record { judgement = answer; responses = column 24 (length responses) (λ j. getD responses j 0) }
@@ -150,17 +151,17 @@ cases =
 
 -- a minimal conflict, by the responses
 minimal-by : (t : Table) → Sound t → (set : ℕ) → T (below (t .tasks .count) set)
-    → lateTest (scheduledTasks t) (has set) ≡ true → someBelow (t .tasks .count) (λ k. has set k && lateTest (scheduledTasks t) (has (removeOf set k))) ≡ false → MinimalConflict t set
+    → lateTest (tasksIn t) (has set) ≡ true → someBelow (t .tasks .count) (λ k. has set k && lateTest (tasksIn t) (has (removeOf set k))) ≡ false → MinimalConflict t set
 minimal-by t s set low e none = record {
   late = test set .0 (rw e tt);
-  minimal = λ k m late. rw none at (some-intro (t .tasks .count) smaller k (below-has (t .tasks .count) set low k m) (and-both (has set k) (lateTest (scheduledTasks t) (has (removeOf set k))) m (test (removeOf set k) .1 late)));
+  minimal = λ k m late. rw none at (some-intro (t .tasks .count) smaller k (below-has (t .tasks .count) set low k m) (and-both (has set k) (lateTest (tasksIn t) (has (removeOf set k))) m (test (removeOf set k) .1 late)));
 }
   where
-    test : (x : ℕ) → T (lateTest (scheduledTasks t) (has x)) ↔ LateSet (scheduledTasks t) (has x)
-    test x = late-test (scheduledTasks t) (valid-tasks s) (has x) (constrained-tasks s)
+    test : (x : ℕ) → T (lateTest (tasksIn t) (has x)) ↔ LateSet (tasksIn t) (has x)
+    test x = late-test (tasksIn t) (valid-tasks s) (has x) (constrained-tasks s)
 
     smaller : ℕ → Bool
-    smaller k = has set k && lateTest (scheduledTasks t) (has (removeOf set k))
+    smaller k = has set k && lateTest (tasksIn t) (has (removeOf set k))
 
 pub cases-hold : AllHold cases
 unfolding judgeOf judgedOn firstUnknown responsesOf firstBroken checkRule firstBelow someBelow sumTo firstFrom elsewhere apart together somePair residenceBroken coResidenceBroken exclusionBroken memoryBroken memoryOn utilisationBroken loadOn networkBroken traffic response leastSolution demand ceil readOf tableOf emptyTable column scanOf scanFrom atEnd missing encode recordsTo recordBytes fieldBytes verdict recordVerdict contentVerdict hyperperiodTooLarge messageRepeated periodsDiffer priorityUsed notInFile badPair badGroup badResidence outOfRange tooMany outOfOrder kindAt recordCut markCut little number bytes markAt lcm lcmTo

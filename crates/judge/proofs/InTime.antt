@@ -22,6 +22,8 @@ use Rattle.table.proofs.Sound.{read-sound}
 use Rattle.schedule.specs.Periodic.{LateSet}
 use Rattle.schedule.specs.Response.{response}
 use Rattle.schedule.proofs.LateSets.{late-set}
+use Rattle.timing.specs.Timing.{tasksIn}
+use Rattle.timing.proofs.Limits.{valid-tasks, constrained-tasks}
 use Rattle.rules.specs.declared.Rule.the-variants.{Deadline}
 use Rattle.rules.specs.declared.Check.{Check}
 use Rattle.rules.specs.declared.Check.the-variants as checks
@@ -31,9 +33,9 @@ use Rattle.rules.specs.Sets.{missed}
 use Rattle.rules.proofs.Order.{kept-keeps, keeps-kept, deadline-broken}
 use Rattle.judge.specs.declared.Judgement.the-variants.{Kept, Broken}
 use Rattle.judge.specs.declared.Judged.{Judged}
-use Rattle.judge.specs.Judge.{PlacementOf, firstUnknown, scheduledTasks, responsesOf, judgementBy, judgedPlacement, refusal, judgedOn, judgeOf}
+use Rattle.judge.specs.Judge.{PlacementOf, firstUnknown, responsesOf, judgementBy, judgedPlacement, refusal, judgedOn, judgeOf}
 use Rattle.judge.specs.Good.{Good}
-use Rattle.judge.proofs.Limits.{all-known, valid-tasks, constrained-tasks}
+use Rattle.judge.proofs.Limits.{all-known}
 
 -- ---- 13, 14, and what is left
 
@@ -57,23 +59,23 @@ judging t q = go (ℕ-discrete (length q) (t .tasks .count)) (first-below (lengt
 
 module _ {t : Table} (s : Sound t) (q : List ℕ) (w : PlacementOf t q) where
   -- a response of 0, and a set that is late
-  late-of : (k : ℕ) → k < t .tasks .count → T (missed (responsesOf t q) k) → LateSet (scheduledTasks t) (λ j. placed q j (getD q k 0))
+  late-of : (k : ℕ) → k < t .tasks .count → T (missed (responsesOf t q) k) → LateSet (tasksIn t) (λ j. placed q j (getD q k 0))
   unfolding responsesOf
   late-of k l u =
-      late-set (scheduledTasks t) (valid-tasks s) (λ j. placed q j (getD q k 0)) (constrained-tasks s) .1
+      late-set (tasksIn t) (valid-tasks s) (λ j. placed q j (getD q k 0)) (constrained-tasks s) .1
       (k, l, and-both (ltb k (length q)) (eqb (getD q k 0) (getD q k 0)) (lt→ltb k (length q) (omega (arith, w .long))) (eqb-refl (getD q k 0)), zero)
     where
-      zero : response (scheduledTasks t) (λ j. placed q j (getD q k 0)) k ≡ 0
+      zero : response (tasksIn t) (λ j. placed q j (getD q k 0)) k ≡ 0
       zero = sym (column-in 24 (t .tasks .count) _ k (s .tasks .most) l) ∙ eqb→eq (getD (responsesOf t q) k 0) 0 u
 
-  of-late : (p : ℕ) → LateSet (scheduledTasks t) (λ k. placed q k p) → (k : ℕ) × (k < t .tasks .count) × T (missed (responsesOf t q) k)
+  of-late : (p : ℕ) → LateSet (tasksIn t) (λ k. placed q k p) → (k : ℕ) × (k < t .tasks .count) × T (missed (responsesOf t q) k)
   unfolding responsesOf
   of-late p late =
-      let e = late-set (scheduledTasks t) (valid-tasks s) (λ k. placed q k p) (constrained-tasks s) .0 late in
+      let e = late-set (tasksIn t) (valid-tasks s) (λ k. placed q k p) (constrained-tasks s) .0 late in
       let k = e .0 in
       let here : getD q k 0 ≡ p = eqb→eq (getD q k 0) p (and-right (ltb k (length q)) (eqb (getD q k 0) p) (e .2)) in
-      let zero : response (scheduledTasks t) (λ j. placed q j (getD q k 0)) k ≡ 0 = ap (λ (x : ℕ). response (scheduledTasks t) (λ j. placed q j x) k) here ∙ e .3 in
-      (k, e .1, rw (column-in 24 (t .tasks .count) (λ i. response (scheduledTasks t) (λ j. placed q j (getD q i 0)) i) k (s .tasks .most) (e .1) ∙ zero) tt)
+      let zero : response (tasksIn t) (λ j. placed q j (getD q k 0)) k ≡ 0 = ap (λ (x : ℕ). response (tasksIn t) (λ j. placed q j x) k) here ∙ e .3 in
+      (k, e .1, rw (column-in 24 (t .tasks .count) (λ i. response (tasksIn t) (λ j. placed q j (getD q i 0)) i) k (s .tasks .most) (e .1) ∙ zero) tt)
 
 -- ---- the judgement of a table that was read
 
@@ -104,10 +106,10 @@ module _ {t : Table} (s : Sound t) (q : List ℕ) where
       go (unknown-byte k l h) = absurd (omega (arith, g .placement .known k l))
       go (placement w) = ap judgementBy (keeps-kept t (placed q) (missed (responsesOf t q)) (g .keeps) (λ k l u. g .in-time (getD q k 0) (late-of s q w k l u)))
 
-  deadline-late : (k : ℕ) → judgedOn t q .judgement ≡ Broken Deadline k → Keeps t (placed q) × (k < t .tasks .count) × LateSet (scheduledTasks t) (λ j. placed q j (getD q k 0))
+  deadline-late : (k : ℕ) → judgedOn t q .judgement ≡ Broken Deadline k → Keeps t (placed q) × (k < t .tasks .count) × LateSet (tasksIn t) (λ j. placed q j (getD q k 0))
   deadline-late k e = go (judging t q) e
     where
-      go : {j : Judged} → Judging t q j → j .judgement ≡ Broken Deadline k → Keeps t (placed q) × (k < t .tasks .count) × LateSet (scheduledTasks t) (λ j. placed q j (getD q k 0))
+      go : {j : Judged} → Judging t q j → j .judgement ≡ Broken Deadline k → Keeps t (placed q) × (k < t .tasks .count) × LateSet (tasksIn t) (λ j. placed q j (getD q k 0))
       go (wrong-length d) e = absurd (let z : _≡_ {A = ℕ} 0 1 = cc in omega arith)
       go (unknown-byte i l h) e = absurd (let z : _≡_ {A = ℕ} 0 1 = cc in omega arith)
       go (placement w) e =
@@ -130,5 +132,5 @@ module _ (file : List ℕ) (b : Bytes file) (readable : readOf file .outcome ≡
 
   -- 107 only if the task's processor has a late job, and the placement rules are kept
   pub judged-late : (k : ℕ) → judgeOf file q .judgement ≡ Broken Deadline k
-      → Keeps (readOf file .table) (placed q) × (k < readOf file .table .tasks .count) × LateSet (scheduledTasks (readOf file .table)) (λ j. placed q j (getD q k 0))
+      → Keeps (readOf file .table) (placed q) × (k < readOf file .table .tasks .count) × LateSet (tasksIn (readOf file .table)) (λ j. placed q j (getD q k 0))
   judged-late k e = deadline-late (read-sound file b readable) q k (ap (λ (j : Judged). j .judgement) (sym on-table) ∙ e)

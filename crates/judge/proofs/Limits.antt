@@ -15,13 +15,14 @@ use Rattle.mask.proofs.Laws.{mask-lt}
 use Rattle.table.specs.declared.Table.{Table}
 use Rattle.table.specs.Sound.{Sound}
 use Rattle.table.proofs.Columns.{column-in, column-beyond}
-use Rattle.schedule.specs.Periodic.{Valid, Constrained}
 use Rattle.schedule.specs.Response.{response}
-use Rattle.schedule.specs.Arrays.{tasksOf, higherOf}
+use Rattle.schedule.specs.Arrays.{tasksOf}
+use Rattle.timing.specs.Timing.{timingOf}
+use Rattle.timing.proofs.Limits.{limits-of}
 use Rattle.rules.specs.Placement.{placed}
 use Rattle.rules.specs.Sets.{Placeable, setsOf}
 use Rattle.rules.proofs.Sets.{sets-placed}
-use Rattle.judge.specs.Judge.{PlacementOf, firstUnknown, scheduledTasks, responseOf}
+use Rattle.judge.specs.Judge.{PlacementOf, firstUnknown, responseOf}
 use Rattle.judge.specs.Arrays.{Placed}
 
 -- no byte is unknown, so all name processors
@@ -50,42 +51,21 @@ sets-below q p = go (decLt p 8)
     go (no l) = rw (column-beyond 8 8 tasks p (omega arith)) (lt→ltb 0 (2 ^ length q) (pow-pos (length q)))
 
 -- the response in the set of a task's processor
-pub response-placed : {n : ℕ} {c t d priority higher q sets : List ℕ} → Placed n c t d priority higher q sets → (k : ℕ)
-    → response (tasksOf n c t d priority) (has (getD sets (getD q k 0) 0)) k ≡ responseOf n c t d priority q k
-response-placed {n} {c} {t} {d} {priority} {higher} {q} {sets} w k = ap (λ (on : ℕ → Bool). response (tasksOf n c t d priority) on k) same
+pub response-placed : {n : ℕ} {timing : List (List ℕ)} {q sets : List ℕ} → Placed n timing q sets → (k : ℕ)
+    → response (tasksOf n timing) (has (getD sets (getD q k 0) 0)) k ≡ responseOf (tasksOf n timing) q k
+response-placed {n} {timing} {q} {sets} w k = ap (λ (on : ℕ → Bool). response (tasksOf n timing) on k) same
   where
     same : has (getD sets (getD q k 0) 0) ≡ (λ j. placed q j (getD q k 0))
     same = ap (λ (l : List ℕ). has (getD l (getD q k 0) 0)) (w .on) ∙ fun-ext (λ j. ap (λ (on : ℕ → ℕ → Bool). on j (getD q k 0)) (sets-placed q (w .placeable)))
 
-module _ {t : Table} (s : Sound t) where
-  pub valid-tasks : Valid (scheduledTasks t)
-  valid-tasks = record {
-    works = s .tasks .works;
-    some-period = λ k l. omega (arith, s .tasks .works k l, s .tasks .c-d k l, s .tasks .d-t k l);
-    distinct = s .tasks .distinct;
+module _ {t : Table} (s : Sound t) {q : List ℕ} (w : PlacementOf t q) where
+  pub placeable-of : Placeable q
+  placeable-of = record { few = omega (arith, w .long, s .tasks .most); known = λ k l. omega (arith, w .known k l, s .processors .most) }
+
+  pub placed-of : {timing : List (List ℕ)} {sets : List ℕ} → timing ≡ timingOf t → sets ≡ setsOf q → Placed (t .tasks .count) timing q sets
+  placed-of same e = record {
+    limits = λ p. rw same (limits-of s _ (rw (e, ← (w .long)) (sets-below q p)));
+    placeable = placeable-of;
+    long = w .long;
+    on = e;
   }
-
-  pub constrained-tasks : Constrained (scheduledTasks t)
-  constrained-tasks = s .tasks .d-t
-
-  module _ {q : List ℕ} (w : PlacementOf t q) where
-    pub placeable-of : Placeable q
-    placeable-of = record { few = omega (arith, w .long, s .tasks .most); known = λ k l. omega (arith, w .known k l, s .processors .most) }
-
-    pub placed-of : {higher sets : List ℕ} → higher ≡ higherOf (t .tasks .count) (t .tasks .priority) → sets ≡ setsOf q
-        → Placed (t .tasks .count) (t .tasks .c) (t .tasks .t) (t .tasks .d) (t .tasks .priority) higher q sets
-    placed-of {higher} {sets} ranked e = record {
-      limits = λ p. record {
-        few = s .tasks .most;
-        some-work = s .tasks .works;
-        in-deadline = s .tasks .c-d;
-        in-period = s .tasks .d-t;
-        short-period = s .tasks .ticks;
-        distinct = s .tasks .distinct;
-        ranked = ranked;
-        inside = rw (e, ← (w .long)) (sets-below q p);
-      };
-      placeable = placeable-of;
-      long = w .long;
-      on = e;
-    }

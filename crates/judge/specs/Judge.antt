@@ -13,9 +13,9 @@ use Rattle.table.specs.declared.Outcome.the-variants as outcomes
 use Rattle.table.specs.declared.Table.{Table}
 use Rattle.table.specs.Refusal.{causeNumber}
 use Rattle.table.specs.Table.{column, readOf}
-use Rattle.schedule.specs.Periodic as schedule
+use Rattle.schedule.specs.Periodic.{Tasks}
 use Rattle.schedule.specs.Response.{response}
-use Rattle.schedule.specs.Arrays.{tasksOf}
+use Rattle.timing.specs.Timing.{tasksIn}
 use Rattle.rules.specs.declared.Check.{Check}
 use Rattle.rules.specs.declared.Check.the-variants as checks
 use Rattle.rules.specs.Placement.{placed}
@@ -34,17 +34,13 @@ pub record PlacementOf (t : Table) (q : List ℕ) : Type 0 where
 unfoldable pub firstUnknown : ℕ → List ℕ → ℕ
 firstUnknown m q = firstBelow (length q) (λ k. leb m (getD q k 0))
 
--- the tasks of a table
-abbrev pub scheduledTasks : Table → schedule.Tasks
-scheduledTasks t = tasksOf (t .tasks .count) (t .tasks .c) (t .tasks .t) (t .tasks .d) (t .tasks .priority)
-
 -- the response of task k among the tasks that stand on its processor
-abbrev pub responseOf : ℕ → List ℕ → List ℕ → List ℕ → List ℕ → List ℕ → ℕ → ℕ
-responseOf n c t d priority q k = response (tasksOf n c t d priority) (λ j. placed q j (getD q k 0)) k
+abbrev pub responseOf : Tasks → List ℕ → ℕ → ℕ
+responseOf s q k = response s (λ j. placed q j (getD q k 0)) k
 
 -- 01: n responses, one for each task; places beyond n hold 0
 unfoldable pub responsesOf : Table → List ℕ → List ℕ
-responsesOf t q = column 24 (t .tasks .count) (responseOf (t .tasks .count) (t .tasks .c) (t .tasks .t) (t .tasks .d) (t .tasks .priority) q)
+responsesOf t q = column 24 (t .tasks .count) (responseOf (tasksIn t) q)
 
 abbrev pub judgementBy : Check → Judgement
 judgementBy checks.Kept = Kept

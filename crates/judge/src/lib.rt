@@ -3,11 +3,13 @@ ghost use mathlib.Core.Path.{_≡_};
 ghost use lib.Dec.{ltb};
 ghost use Rattle.finite.specs.Finite.{only};
 ghost use Rattle.table.specs.Sound.{Sound};
+ghost use Rattle.schedule.specs.Arrays.{tasksOf};
 ghost use Rattle.rules.specs.Sets.{setsOf};
 ghost use Rattle.judge.specs.Judge.{PlacementOf, firstUnknown, responseOf, responsesOf, refusal, judgementBy, judgedOn, judgeOf, numberOf};
 ghost use Rattle.judge.specs.Arrays.{Placed};
 use rules::Check;
 use rules::Rule;
+use schedule::Timing;
 use table::Outcome;
 use table::Table;
 use verdict::Cause;
@@ -70,24 +72,20 @@ fn first_unknown(placement: &[u8], m: usize) -> usize
 
 // The response of task k among the tasks that stand on its processor, 0 beyond the n tasks.
 fn response_at<'a>(
-    c: &'a [u32; 24],
-    t: &'a [u32; 24],
-    d: &'a [u32; 24],
-    priority: &'a [u32; 24],
-    higher: &'a [u32; 24],
+    timing: &'a Timing,
     placement: &'a [u8],
     n: usize,
     sets: [u32; 8],
     k: usize,
 ) -> u32
-    requires { ⌜ Placed n (now c) (now t) (now d) (now priority) (now higher) (now placement) sets ⌝ }
-    ensures { λ r. ⌜ r ≡ only (ltb k n) (responseOf n (now (c .entry)) (now (t .entry)) (now (d .entry)) (now (priority .entry)) (now (placement .entry)) k) ⌝ }
+    requires { ⌜ Placed n (now timing) (now placement) sets ⌝ }
+    ensures { λ r. ⌜ r ≡ only (ltb k n) (responseOf (tasksOf n (now (timing .entry))) (now (placement .entry)) k) ⌝ }
 {
     if n <= k {
         return 0;
     }
     let p = placement[k] as usize;
-    schedule::response(c, t, d, priority, higher, n, sets[p], k)
+    schedule::response(timing, n, sets[p], k)
 }
 
 // The responses of all tasks.
@@ -97,15 +95,11 @@ fn responses_of(table: Table, placement: &[u8], sets: [u32; 8]) -> [u32; 24]
 {
     let tasks = table.tasks;
     let n = tasks.count;
-    let c = tasks.c;
-    let t = tasks.t;
-    let d = tasks.d;
-    let priority = tasks.priority;
-    let higher = schedule::higher(&priority, n);
+    let timing = timing::timing_of(table);
     let mut responses = [0u32; 24];
     let mut k: usize = 0;
     while k < 24 {
-        let response = response_at(&c, &t, &d, &priority, &higher, placement, n, sets, k);
+        let response = response_at(&timing, placement, n, sets, k);
         responses[k] = response;
         k += 1;
     }

@@ -1,8 +1,8 @@
 -- Laws of the table of known sets: how it starts, what a word of it says, what may be written. Assumes nothing.
-use mathlib.Core.Path.{_≡_, refl, sym, subst}
+use mathlib.Core.Path.{_≡_, sym, subst}
 use mathlib.Core.Bool.{Bool, true, false, _&&_}
 use mathlib.Core.List.{List}
-use Prim.Native.Nat.{ℕ, zero, suc, _+_, _*_, _/_, _%_, _^_, _≤_, _<_}
+use Prim.Native.Nat.{ℕ, _+_, _*_, _/_, _%_, _^_, _≤_, _<_}
 use native.Mathlib.Nat.{lt-of-lt-of-le}
 use native.Mathlib.Omega.{arith}
 use native.Mathlib.Decide.{ℕ-discrete, decLt}
@@ -12,6 +12,7 @@ use lib.Pow.{pow-mono}
 use lib.ListN.{length, getD, set, replicate}
 use lib.Seq.{getD-set-same, getD-set-other, set-out}
 use Rattle.finite.specs.Finite.{only}
+use Rattle.finite.proofs.Stored.{zeros}
 use Rattle.mask.specs.Mask.{has}
 use Rattle.mask.proofs.Laws.{has-zero}
 use Rattle.schedule.specs.Periodic.{Tasks, LateSet}
@@ -27,7 +28,7 @@ late-member {s} {on} l = (l .task, member (on (l .task)) (eqb (l .tick % s .T (l
     member false d work h = omega arith
 
 -- a set of tasks leaves room for its verdict in a word
-pub small-set : {n x : ℕ} {c t d p higher : List ℕ} → InLimits n c t d p higher x → x < 2 ^ 24
+pub small-set : {n x : ℕ} {rows : List (List ℕ)} → InLimits n rows x → x < 2 ^ 24
 small-set {n} {x} h = lt-of-lt-of-le (ltb→lt x (2 ^ n) (h .inside)) (pow-mono (h .few))
 
 pub bool-small : (b : Bool) → boolByte b ≤ 1
@@ -43,11 +44,6 @@ pub knows-start : (s : Tasks) (n : ℕ) → Knows s (replicate n 0)
 knows-start s n = record {
   says = λ j l. subst (Right s) (sym (zeros n j)) (λ late. let m = late-member late in rw (has-zero (m .0)) at (m .1));
 }
-  where
-    zeros : (n j : ℕ) → _≡_ {A = ℕ} (getD (replicate n 0) j 0) 0
-    zeros zero j = refl
-    zeros (suc n) zero = refl
-    zeros (suc n) (suc j) = zeros n j
 
 -- the word for a set that was tested
 right-word : (s : Tasks) (x : ℕ) (late : Bool) → Says late (LateSet s (has x)) → Right s (2 * x + boolByte late)

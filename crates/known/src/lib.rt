@@ -4,6 +4,10 @@ ghost use Rattle.mask.specs.Mask.{has};
 ghost use Rattle.schedule.specs.Periodic.{LateSet};
 ghost use Rattle.schedule.specs.Arrays.{tasksOf, InLimits, Says};
 ghost use Rattle.known.specs.Known.{Knows};
+use schedule::Timing;
+
+// 8,192 words for sets, and as many for hints, of which nothing is claimed.
+pub type Known = [u32; 16384];
 
 // Where a set stands in a table of 8,192 words. Any place would do: no answer rests on it.
 pub fn place_of(set: u32) -> usize
@@ -13,25 +17,16 @@ pub fn place_of(set: u32) -> usize
 }
 
 // Whether the set has a late job in the tick run: from the table, or worked out and put there.
-pub fn is_late<'a>(
-    c: &'a [u32; 24],
-    t: &'a [u32; 24],
-    d: &'a [u32; 24],
-    priority: &'a [u32; 24],
-    higher: &'a [u32; 24],
-    n: usize,
-    set: u32,
-    known: &mut [u32; 16384],
-) -> bool
-    requires { ⌜ InLimits n (now c) (now t) (now d) (now priority) (now higher) set × Knows (tasksOf n (now c) (now t) (now d) (now priority)) (now known) ⌝ }
-    ensures { λ r. ⌜ Says r (LateSet (tasksOf n (now (c .entry)) (now (t .entry)) (now (d .entry)) (now (priority .entry))) (has set)) × Knows (tasksOf n (now (c .entry)) (now (t .entry)) (now (d .entry)) (now (priority .entry))) (now (known .exit)) ⌝ }
+pub fn is_late(timing: &Timing, n: usize, set: u32, known: &mut Known) -> bool
+    requires { ⌜ InLimits n (now timing) set × Knows (tasksOf n (now timing)) (now known) ⌝ }
+    ensures { λ r. ⌜ Says r (LateSet (tasksOf n (now (timing .entry))) (has set)) × Knows (tasksOf n (now (timing .entry))) (now (known .exit)) ⌝ }
 {
     let at = place_of(set);
     let word = known[at];
     if word / 2 == set {
         return word % 2 == 1;
     }
-    let late = schedule::is_late(c, t, d, priority, higher, n, set);
+    let late = schedule::is_late(timing, n, set);
     known[at] = 2 * set + late as u32;
     late
 }

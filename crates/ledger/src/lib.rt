@@ -9,6 +9,15 @@ ghost use Rattle.schedule.specs.Arrays.{tasksOf, InLimits};
 ghost use Rattle.answer.specs.Answer.{maskAt};
 ghost use Rattle.known.specs.Known.{Knows};
 ghost use Rattle.ledger.specs.Ledger.{Ledger, Noted};
+use known::Known;
+use schedule::Timing;
+
+// How the search runs: whether it lists conflicts, in how many places, and whether it may give up.
+pub struct Mode {
+    pub listing: bool,
+    pub places: usize,
+    pub limited: bool,
+}
 
 // Whether the set may not stand on a processor, and how many conflicts are listed then.
 pub struct Tested {
@@ -18,7 +27,7 @@ pub struct Tested {
 
 // Whether one of the first `count` conflicts is a subset of the set. The table says which it was the last time: a hint, which is looked at first.
 // A conflict is a set of at most 24 tasks, so its number has 24 bits.
-pub fn covered(list: &[u8], count: usize, set: u32, known: &mut [u32; 16384]) -> bool
+pub fn covered(list: &[u8], count: usize, set: u32, known: &mut Known) -> bool
     requires { ⌜ 6 * count ≤ length (now list) ⌝ }
     ensures { λ r. ⌜ (r ≡ someBelow count (λ j. within (maskAt (now (list .entry)) j) set)) × ((s : Tasks) → Knows s (now (known .entry)) → Knows s (now (known .exit))) ⌝ }
 {
@@ -33,36 +42,31 @@ pub fn covered(list: &[u8], count: usize, set: u32, known: &mut [u32; 16384]) ->
 }
 
 // Tests a set. Where conflicts are listed, a late set must hold a listed one: one of its own is appended while there are places.
-pub fn test<'a>(
-    c: &'a [u32; 24],
-    t: &'a [u32; 24],
-    d: &'a [u32; 24],
-    priority: &'a [u32; 24],
-    higher: &'a [u32; 24],
+pub fn test(
+    timing: &Timing,
     n: usize,
     set: u32,
-    listing: bool,
+    mode: Mode,
     list: &mut [u8],
-    places: usize,
     count: usize,
-    known: &mut [u32; 16384],
+    known: &mut Known,
 ) -> Tested
-    requires { ⌜ InLimits n (now c) (now t) (now d) (now priority) (now higher) set × Ledger (tasksOf n (now c) (now t) (now d) (now priority)) places (now list) count × Knows (tasksOf n (now c) (now t) (now d) (now priority)) (now known) ⌝ }
-    ensures { λ r. ⌜ Noted (tasksOf n (now (c .entry)) (now (t .entry)) (now (d .entry)) (now (priority .entry))) listing places set (now (list .entry)) count (now (list .exit)) r × Knows (tasksOf n (now (c .entry)) (now (t .entry)) (now (d .entry)) (now (priority .entry))) (now (known .exit)) ⌝ }
+    requires { ⌜ InLimits n (now timing) set × Ledger (tasksOf n (now timing)) (mode .places) (now list) count × Knows (tasksOf n (now timing)) (now known) ⌝ }
+    ensures { λ r. ⌜ Noted (tasksOf n (now (timing .entry))) (mode .listing) (mode .places) set (now (list .entry)) count (now (list .exit)) r × Knows (tasksOf n (now (timing .entry))) (now (known .exit)) ⌝ }
 {
-    if !known::is_late(c, t, d, priority, higher, n, set, known) {
+    if !known::is_late(timing, n, set, known) {
         return Tested { bad: false, count };
     }
-    if !listing {
+    if !mode.listing {
         return Tested { bad: true, count };
     }
     if covered(list, count, set, known) {
         return Tested { bad: true, count };
     }
-    if count == places {
+    if count == mode.places {
         return Tested { bad: false, count };
     }
-    let conflict = conflict::extract(c, t, d, priority, higher, n, set);
+    let conflict = conflict::extract(timing, n, set);
     answer::append(list, count, conflict);
     Tested {
         bad: true,

@@ -10,10 +10,11 @@ use lib.ListN.{length, getD, set, replicate, getD-replicate, length-set, length-
 use lib.Seq.{getD-set-same, getD-set-other}
 use Rattle.finite.proofs.Sum.{sum-zero}
 use Rattle.finite.proofs.Only.{only-out}
+use Rattle.finite.proofs.Stored.{zeros}
 use Rattle.mask.specs.Mask.{has, Subset}
 use Rattle.mask.proofs.Laws.{has-zero}
 use Rattle.table.specs.declared.Table.{Table}
-use Rattle.conflict.specs.Entry.{tasksIn}
+use Rattle.timing.specs.Timing.{tasksIn}
 use Rattle.known.specs.Known.{Knows}
 use Rattle.packing.specs.Packing.{weightOf}
 use Rattle.packing.proofs.Taking.{weight-less}
@@ -24,33 +25,23 @@ pub weight-none : (n : ℕ) (weights : List ℕ) → weightOf n weights 0 ≡ 0
 unfolding weightOf
 weight-none n weights = sum-zero n _ (λ k l. only-out (has 0 k) (getD weights k 0) (λ u. rw (has-zero k) at u))
 
--- an array of zeros
-pub zeros : (n k : ℕ) → _≡_ {A = ℕ} (getD (replicate n 0) k 0) 0
-zeros n k = go (decLt k n)
-  where
-    go : Dec (k < n) → _≡_ {A = ℕ} (getD (replicate n 0) k 0) 0
-    go (yes l) = getD-replicate n k 0 0 l
-    go (no l) = List·getD-eq-default (replicate n 0) 0 {n = k} (simp length-replicate (omega arith))
-
--- ---- at first
-
 -- an entry of zeros has no candidates
-zeros-cap : {t : Table} {guide : List ℕ} (n j : ℕ) → Entry t guide (replicate n 0) j
+zeros-cap : {t : Table} {columns : List (List ℕ)} (n j : ℕ) → Entry t columns (replicate n 0) j
 zeros-cap n j = record { bounds = λ x w f. none _ _ x (λ k u. subst (λ (m : ℕ). T (has m k)) (zeros n (j + 1)) (f k u)) }
   where
     none : (m : ℕ) (weights : List ℕ) {top : ℕ} (x : ℕ) → Subset x 0 → weightOf m weights x ≤ top
     none m weights x f = omega (arith, weight-less m weights x 0 f, weight-none m weights)
 
-pub memo-start : {t : Table} {guide : List ℕ} → Memo t guide (replicate 12288 0)
+pub memo-start : {t : Table} {columns : List (List ℕ)} → Memo t columns (replicate 12288 0)
 memo-start = record { long = length-replicate {A = ℕ} 12288 0; entries = λ j l. zeros-cap 12288 (6 * j) }
 
-pub learnt-start : {t : Table} {guide known : List ℕ} → Knows (tasksIn t) known → Learnt t guide known (replicate 12288 0)
+pub learnt-start : {t : Table} {columns : List (List ℕ)} {known : List ℕ} → Knows (tasksIn t) known → Learnt t columns known (replicate 12288 0)
 learnt-start k = record { knows = k; keeps = memo-start }
 
 -- ---- what is found
 
-pub recalled : {t : Table} {guide memo : List ℕ} {j on candidates row space spare : ℕ} → Memo t guide memo → j < 2048 → Key memo (6 * j) on candidates row space spare
-    → Capped t guide on candidates row space spare (getD memo (6 * j + 5) 0)
+pub recalled : {t : Table} {columns : List (List ℕ)} {memo : List ℕ} {j on candidates row space spare : ℕ} → Memo t columns memo → j < 2048 → Key memo (6 * j) on candidates row space spare
+    → Capped t columns on candidates row space spare (getD memo (6 * j + 5) 0)
 recalled {j = j} m l k = rw (k .same-on, k .same-candidates, k .same-row, k .same-space, k .same-spare) at (m .entries j l)
 
 -- ---- one entry written anew
@@ -72,9 +63,9 @@ stored-same (v ∷ vs) memo start i zero x l e h =
     stored-other vs (set memo (start + i) v) start (suc i) x (λ k _ o. omega arith) ∙ subst (λ (y : ℕ). getD (set memo y v) x 0 ≡ v) (sym here) (getD-set-same memo x v 0 h)
 stored-same (v ∷ vs) memo start i (suc k) x l e h = stored-same vs (set memo (start + i) v) start (suc i) k x (omega arith) (omega arith) (simp length-set h)
 
-pub memo-keep : {t : Table} {guide memo : List ℕ} {j on candidates row space spare top : ℕ} → Memo t guide memo → j < 2048 → Capped t guide on candidates row space spare top
-    → Memo t guide (stored (set memo (6 * j) on) (6 * j) 1 (candidates ∷ row ∷ space ∷ spare ∷ top ∷ []))
-memo-keep {t} {guide} {memo} {j} {on} {candidates} {row} {space} {spare} {top} m low c = record { long = simp length-set (m .long); entries = λ i l. go i l (ℕ-discrete i j) }
+pub memo-keep : {t : Table} {columns : List (List ℕ)} {memo : List ℕ} {j on candidates row space spare top : ℕ} → Memo t columns memo → j < 2048 → Capped t columns on candidates row space spare top
+    → Memo t columns (stored (set memo (6 * j) on) (6 * j) 1 (candidates ∷ row ∷ space ∷ spare ∷ top ∷ []))
+memo-keep {t} {columns} {memo} {j} {on} {candidates} {row} {space} {spare} {top} m low c = record { long = simp length-set (m .long); entries = λ i l. go i l (ℕ-discrete i j) }
   where
     numbers : List ℕ
     numbers = candidates ∷ row ∷ space ∷ spare ∷ top ∷ []
@@ -91,7 +82,7 @@ memo-keep {t} {guide} {memo} {j} {on} {candidates} {row} {space} {spare} {top} m
     other : (i x : ℕ) → i ≢ j → 6 * i ≤ x → x < 6 * i + 6 → getD new x 0 ≡ getD memo x 0
     other i x d l h = stored-other numbers (set memo (6 * j) on) (6 * j) 1 x (λ k u e. d (omega arith)) ∙ getD-set-other memo (6 * j) x on 0 (λ e. d (omega arith))
 
-    go : (i : ℕ) → i < 2048 → Dec (i ≡ j) → Entry t guide new (6 * i)
+    go : (i : ℕ) → i < 2048 → Dec (i ≡ j) → Entry t columns new (6 * i)
     go i l (yes e) = rw (e, same-on, same 0 (omega arith), same 1 (omega arith), same 2 (omega arith), same 3 (omega arith), same 4 (omega arith)) c
     go i l (no d) =
         let kept : (k : ℕ) → k < 6 → getD new (6 * i + k) 0 ≡ getD memo (6 * i + k) 0 = λ k h. other i (6 * i + k) d (omega arith) (omega arith) in

@@ -7,6 +7,9 @@ ghost use lib.Dec.{T};
 ghost use Rattle.table.specs.declared.Table.{Table};
 ghost use Rattle.memo.specs.Memo.{Capped, Memo, Key};
 
+// 2,048 bounds, each with what it was worked out from.
+pub type Memo = [u64; 12288];
+
 // Whether a bound is kept, and which.
 pub struct Recalled {
     pub hit: bool,
@@ -34,7 +37,7 @@ fn entry_of(on: u32, candidates: u32, row: usize, space: u64) -> usize
 
 // Whether the entry that begins at j is for these tasks, candidates and row, with that much memory and load left.
 fn is_for(
-    memo: &[u64; 12288],
+    memo: &Memo,
     j: usize,
     on: u32,
     candidates: u32,
@@ -64,15 +67,8 @@ fn is_for(
 }
 
 // The bound that is kept for these tasks, candidates and row, with that much memory (space) and load (spare) left.
-pub fn recall(
-    on: u32,
-    candidates: u32,
-    row: usize,
-    space: u64,
-    spare: u64,
-    memo: &[u64; 12288],
-) -> Recalled
-    ensures { λ r. ⌜ (r .hit ≡ true → (t : Table) (guide : List ℕ) → Memo t guide (now (memo .entry)) → Capped t guide on candidates row space spare (r .top)) ⌝ }
+pub fn recall(on: u32, candidates: u32, row: usize, space: u64, spare: u64, memo: &Memo) -> Recalled
+    ensures { λ r. ⌜ (r .hit ≡ true → (t : Table) (columns : List (List ℕ)) → Memo t columns (now (memo .entry)) → Capped t columns on candidates row space spare (r .top)) ⌝ }
 {
     let j = 6 * entry_of(on, candidates, row, space);
     Recalled {
@@ -82,16 +78,8 @@ pub fn recall(
 }
 
 // Keeps a bound, in the place of another.
-pub fn keep(
-    on: u32,
-    candidates: u32,
-    row: usize,
-    space: u64,
-    spare: u64,
-    top: u64,
-    memo: &mut [u64; 12288],
-)
-    ensures { λ _. ⌜ ((t : Table) (guide : List ℕ) → Memo t guide (now (memo .entry)) → Capped t guide on candidates row space spare top → Memo t guide (now (memo .exit))) ⌝ }
+pub fn keep(on: u32, candidates: u32, row: usize, space: u64, spare: u64, top: u64, memo: &mut Memo)
+    ensures { λ _. ⌜ ((t : Table) (columns : List (List ℕ)) → Memo t columns (now (memo .entry)) → Capped t columns on candidates row space spare top → Memo t columns (now (memo .exit))) ⌝ }
 {
     let j = 6 * entry_of(on, candidates, row, space);
     memo[j] = wide(on);

@@ -21,8 +21,8 @@ use Rattle.rules.specs.Placement.{placed, andTask}
 use Rattle.rules.specs.Rules.{Keeps}
 use Rattle.rules.specs.Sets.{standing}
 use Rattle.rules.proofs.Monotone.{keeps-part}
-use Rattle.conflict.specs.Entry.{tasksIn}
-use Rattle.judge.proofs.Limits.{valid-tasks, constrained-tasks}
+use Rattle.timing.specs.Timing.{tasksIn}
+use Rattle.timing.proofs.Limits.{valid-tasks, constrained-tasks}
 use Rattle.ledger.specs.declared.Tested.{Tested}
 use Rattle.ledger.specs.Ledger.{Ledger, Grows, Bad, Verdict, Noted}
 use Rattle.ledger.proofs.Growth.{grows-refl, grows-trans, grows-map}

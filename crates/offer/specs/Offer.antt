@@ -10,7 +10,7 @@ use Rattle.table.specs.declared.Table.{Table}
 use Rattle.rules.specs.Placement.{placed}
 use Rattle.rules.specs.Rules.{Keeps}
 use Rattle.rules.specs.Sets.{standing}
-use Rattle.conflict.specs.Entry.{tasksIn}
+use Rattle.timing.specs.Timing.{tasksIn}
 use Rattle.judge.specs.Judge.{PlacementOf}
 use Rattle.partial.specs.declared.State.{State}
 use Rattle.ledger.specs.Ledger.{Ledger, Grows, Bad}

@@ -4,16 +4,21 @@ ghost use Prim.Native.Nat.{_<_};
 ghost use lib.Dec.{T};
 ghost use Rattle.mask.specs.Mask.{has};
 ghost use Rattle.table.specs.declared.Table.{Table};
-ghost use Rattle.conflict.specs.Entry.{tasksIn};
+ghost use Rattle.timing.specs.Timing.{tasksIn};
 ghost use Rattle.partial.specs.declared.State.{State};
 ghost use Rattle.partial.specs.Partial.{Fits, siteOf};
 ghost use Rattle.known.specs.Known.{Knows};
 ghost use Rattle.ledger.specs.Ledger.{Ledger};
 ghost use Rattle.region.specs.Lends.{Lends};
 ghost use Rattle.offer.specs.Offer.{JoinsAs, ChosenAs, OfferedAs};
+use columns::Columns;
+use columns::Messages;
+use known::Known;
+use ledger::Mode;
 use partial::Site;
 use partial::Sizes;
 use partial::State;
+use schedule::Timing;
 
 // Whether a task may join a processor, and how many conflicts are listed then.
 struct Joining {
@@ -35,64 +40,27 @@ pub struct Offered {
 
 // The open task k on processor p: tested by the rules, then for lateness.
 fn join<'a>(
-    work: &'a [u32; 24],
-    period: &'a [u32; 24],
-    deadline: &'a [u32; 24],
-    priority: &'a [u32; 24],
-    higher: &'a [u32; 24],
-    residence: &'a [u32; 24],
-    memory: &'a [u32; 24],
-    exclusions: &'a [u32; 24],
-    co: &'a [u32; 16],
-    sender: &'a [u32; 64],
-    receiver: &'a [u32; 64],
-    loads: &'a [u64; 24],
-    amounts: &'a [u64; 64],
+    timing: &'a Timing,
+    columns: &'a Columns,
+    messages: &'a Messages,
     sizes: Sizes,
     site: Site,
     k: usize,
     p: usize,
-    listing: bool,
+    mode: Mode,
     list: &mut [u8],
-    places: usize,
     count: usize,
-    known: &mut [u32; 16384],
+    known: &mut Known,
 ) -> Joining
-    requires { ⌜ ((t : Table) × (s : State) × Lends t sizes (now work) (now period) (now deadline) (now priority) (now higher) (now residence) (now memory) (now exclusions) (now co) (now sender) (now receiver) (now loads) (now amounts) × Fits t s × (site ≡ siteOf s p) × Ledger (tasksIn t) places (now list) count × Knows (tasksIn t) (now known)) × T (has (site .left) k) × (p < sizes .processors) ⌝ }
-    ensures { λ r. ⌜ ((t : Table) (s : State) → Lends t sizes (now (work .entry)) (now (period .entry)) (now (deadline .entry)) (now (priority .entry)) (now (higher .entry)) (now (residence .entry)) (now (memory .entry)) (now (exclusions .entry)) (now (co .entry)) (now (sender .entry)) (now (receiver .entry)) (now (loads .entry)) (now (amounts .entry))
-        → Fits t s → site ≡ siteOf s p → Ledger (tasksIn t) places (now (list .entry)) count → Knows (tasksIn t) (now (known .entry)) → JoinsAs t listing places s k p (now (list .entry)) count (now (list .exit)) r × Knows (tasksIn t) (now (known .exit))) ⌝ }
+    requires { ⌜ ((t : Table) × (s : State) × Lends t sizes (now timing) (now columns) (now messages) × Fits t s × (site ≡ siteOf s p) × Ledger (tasksIn t) (mode .places) (now list) count × Knows (tasksIn t) (now known)) × T (has (site .left) k) × (p < sizes .processors) ⌝ }
+    ensures { λ r. ⌜ ((t : Table) (s : State) → Lends t sizes (now (timing .entry)) (now (columns .entry)) (now (messages .entry))
+        → Fits t s → site ≡ siteOf s p → Ledger (tasksIn t) (mode .places) (now (list .entry)) count → Knows (tasksIn t) (now (known .entry)) → JoinsAs t (mode .listing) (mode .places) s k p (now (list .entry)) count (now (list .exit)) r × Knows (tasksIn t) (now (known .exit))) ⌝ }
 {
-    if !partial::allows(
-        residence,
-        memory,
-        exclusions,
-        co,
-        sender,
-        receiver,
-        loads,
-        amounts,
-        sizes,
-        site,
-        k,
-        p,
-    ) {
+    if !partial::allows(columns, messages, sizes, site, k, p) {
         return Joining { able: false, count };
     }
     let set = mask::insert(site.on, k);
-    let tested = ledger::test(
-        work,
-        period,
-        deadline,
-        priority,
-        higher,
-        sizes.tasks,
-        set,
-        listing,
-        list,
-        places,
-        count,
-        known,
-    );
+    let tested = ledger::test(timing, sizes.tasks, set, mode, list, count, known);
     Joining {
         able: !tested.bad,
         count: tested.count,
@@ -101,31 +69,20 @@ fn join<'a>(
 
 // The open tasks that may stand on processor p.
 fn candidates<'a>(
-    work: &'a [u32; 24],
-    period: &'a [u32; 24],
-    deadline: &'a [u32; 24],
-    priority: &'a [u32; 24],
-    higher: &'a [u32; 24],
-    residence: &'a [u32; 24],
-    memory: &'a [u32; 24],
-    exclusions: &'a [u32; 24],
-    co: &'a [u32; 16],
-    sender: &'a [u32; 64],
-    receiver: &'a [u32; 64],
-    loads: &'a [u64; 24],
-    amounts: &'a [u64; 64],
+    timing: &'a Timing,
+    columns: &'a Columns,
+    messages: &'a Messages,
     sizes: Sizes,
     s: State,
     p: usize,
-    listing: bool,
+    mode: Mode,
     list: &mut [u8],
-    places: usize,
     count: usize,
-    known: &mut [u32; 16384],
+    known: &mut Known,
 ) -> Chosen
-    requires { ⌜ ((t : Table) × Lends t sizes (now work) (now period) (now deadline) (now priority) (now higher) (now residence) (now memory) (now exclusions) (now co) (now sender) (now receiver) (now loads) (now amounts) × Fits t s × Ledger (tasksIn t) places (now list) count × Knows (tasksIn t) (now known)) × (p < sizes .processors) ⌝ }
-    ensures { λ r. ⌜ ((t : Table) → Lends t sizes (now (work .entry)) (now (period .entry)) (now (deadline .entry)) (now (priority .entry)) (now (higher .entry)) (now (residence .entry)) (now (memory .entry)) (now (exclusions .entry)) (now (co .entry)) (now (sender .entry)) (now (receiver .entry)) (now (loads .entry)) (now (amounts .entry))
-        → Fits t s → Ledger (tasksIn t) places (now (list .entry)) count → Knows (tasksIn t) (now (known .entry)) → ChosenAs t listing places s p (now (list .entry)) count (now (list .exit)) r × Knows (tasksIn t) (now (known .exit))) ⌝ }
+    requires { ⌜ ((t : Table) × Lends t sizes (now timing) (now columns) (now messages) × Fits t s × Ledger (tasksIn t) (mode .places) (now list) count × Knows (tasksIn t) (now known)) × (p < sizes .processors) ⌝ }
+    ensures { λ r. ⌜ ((t : Table) → Lends t sizes (now (timing .entry)) (now (columns .entry)) (now (messages .entry))
+        → Fits t s → Ledger (tasksIn t) (mode .places) (now (list .entry)) count → Knows (tasksIn t) (now (known .entry)) → ChosenAs t (mode .listing) (mode .places) s p (now (list .entry)) count (now (list .exit)) r × Knows (tasksIn t) (now (known .exit))) ⌝ }
 {
     let site = Site {
         on: s.on[p],
@@ -140,26 +97,15 @@ fn candidates<'a>(
     while rest != 0 {
         let k = mask::lowest(rest);
         let joining = join(
-            work,
-            period,
-            deadline,
-            priority,
-            higher,
-            residence,
-            memory,
-            exclusions,
-            co,
-            sender,
-            receiver,
-            loads,
-            amounts,
+            timing,
+            columns,
+            messages,
             sizes,
             site,
             k,
             p,
-            listing,
+            mode,
             list,
-            places,
             listed,
             known,
         );
@@ -174,55 +120,33 @@ fn candidates<'a>(
 
 // The candidates for each processor.
 pub fn offers<'a>(
-    work: &'a [u32; 24],
-    period: &'a [u32; 24],
-    deadline: &'a [u32; 24],
-    priority: &'a [u32; 24],
-    higher: &'a [u32; 24],
-    residence: &'a [u32; 24],
-    memory: &'a [u32; 24],
-    exclusions: &'a [u32; 24],
-    co: &'a [u32; 16],
-    sender: &'a [u32; 64],
-    receiver: &'a [u32; 64],
-    loads: &'a [u64; 24],
-    amounts: &'a [u64; 64],
+    timing: &'a Timing,
+    columns: &'a Columns,
+    messages: &'a Messages,
     sizes: Sizes,
     s: State,
-    listing: bool,
+    mode: Mode,
     list: &mut [u8],
-    places: usize,
     count: usize,
-    known: &mut [u32; 16384],
+    known: &mut Known,
 ) -> Offered
-    requires { ⌜ ((t : Table) × Lends t sizes (now work) (now period) (now deadline) (now priority) (now higher) (now residence) (now memory) (now exclusions) (now co) (now sender) (now receiver) (now loads) (now amounts) × Fits t s × Ledger (tasksIn t) places (now list) count × Knows (tasksIn t) (now known)) ⌝ }
-    ensures { λ r. ⌜ ((t : Table) → Lends t sizes (now (work .entry)) (now (period .entry)) (now (deadline .entry)) (now (priority .entry)) (now (higher .entry)) (now (residence .entry)) (now (memory .entry)) (now (exclusions .entry)) (now (co .entry)) (now (sender .entry)) (now (receiver .entry)) (now (loads .entry)) (now (amounts .entry))
-        → Fits t s → Ledger (tasksIn t) places (now (list .entry)) count → Knows (tasksIn t) (now (known .entry)) → OfferedAs t listing places s (now (list .entry)) count (now (list .exit)) r × Knows (tasksIn t) (now (known .exit))) ⌝ }
+    requires { ⌜ ((t : Table) × Lends t sizes (now timing) (now columns) (now messages) × Fits t s × Ledger (tasksIn t) (mode .places) (now list) count × Knows (tasksIn t) (now known)) ⌝ }
+    ensures { λ r. ⌜ ((t : Table) → Lends t sizes (now (timing .entry)) (now (columns .entry)) (now (messages .entry))
+        → Fits t s → Ledger (tasksIn t) (mode .places) (now (list .entry)) count → Knows (tasksIn t) (now (known .entry)) → OfferedAs t (mode .listing) (mode .places) s (now (list .entry)) count (now (list .exit)) r × Knows (tasksIn t) (now (known .exit))) ⌝ }
 {
     let mut sets = [0u32; 8];
     let mut listed = count;
     let mut p: usize = 0;
     while p < sizes.processors {
         let chosen = candidates(
-            work,
-            period,
-            deadline,
-            priority,
-            higher,
-            residence,
-            memory,
-            exclusions,
-            co,
-            sender,
-            receiver,
-            loads,
-            amounts,
+            timing,
+            columns,
+            messages,
             sizes,
             s,
             p,
-            listing,
+            mode,
             list,
-            places,
             listed,
             known,
         );

@@ -33,10 +33,10 @@ pub record Takes (n : ℕ) (memory exclusions loads : List ℕ) (B : (ℕ → Bo
   pub clear : B (joined on x) → ⊥
 
 -- what the calculation begins with: tasks within the limits, on the processor and candidates for it, and the list of conflicts
-pub record Packs (n : ℕ) (work period deadline priority higher : List ℕ) (places on candidates : ℕ) (list : List ℕ) (count : ℕ) : Type 0 where
-  pub limits : InLimits n work period deadline priority higher on
+pub record Packs (n : ℕ) (timing : List (List ℕ)) (places on candidates : ℕ) (list : List ℕ) (count : ℕ) : Type 0 where
+  pub limits : InLimits n timing on
   pub tasks : T (below n candidates)
-  pub ledger : Ledger (tasksOf n work period deadline priority) places list count
+  pub ledger : Ledger (tasksOf n timing) places list count
 
 -- c holds only tasks that stand on the processor or are candidates for it
 abbrev pub Among : ℕ → ℕ → ℕ → Type 0

@@ -3,8 +3,17 @@ ghost use mathlib.Core.Path.{_≡_};
 ghost use Prim.Native.Nat.{_+_, _<_};
 ghost use lib.ListN.{getD};
 ghost use Rattle.schedule.specs.Arrays.{tasksOf};
+ghost use Rattle.columns.specs.Columns.{memoryRow, loadRow, exclusionRow};
 ghost use Rattle.known.specs.Known.{Knows};
 ghost use Rattle.packing.specs.Packing.{weightOf, hasRoom, Packs, PackedAs, TakenAs};
+use columns::Columns;
+use columns::EXCLUSIONS;
+use columns::LOAD;
+use columns::MEMORY;
+use columns::ORDER;
+use known::Known;
+use ledger::Mode;
+use schedule::Timing;
 
 // No less than the most weight that a processor can take, and how many conflicts are listed then.
 pub struct Packed {
@@ -20,39 +29,24 @@ fn wide(x: u32) -> u64
 }
 
 // Whether task k fits what is left of memory (space) and load (spare), and none of the tasks there is excluded from it.
-fn room<'a>(
-    memory: &'a [u32; 24],
-    exclusions: &'a [u32; 24],
-    loads: &'a [u64; 24],
-    on: u32,
-    space: u64,
-    spare: u64,
-    k: usize,
-) -> bool
+fn room(columns: &Columns, on: u32, space: u64, spare: u64, k: usize) -> bool
     requires { ⌜ k < 24 ⌝ }
-    ensures { λ r. ⌜ r ≡ hasRoom (now (memory .entry)) (now (exclusions .entry)) (now (loads .entry)) on space spare k ⌝ }
+    ensures { λ r. ⌜ r ≡ hasRoom (memoryRow (now (columns .entry))) (exclusionRow (now (columns .entry))) (loadRow (now (columns .entry))) on space spare k ⌝ }
 {
-    if space < wide(memory[k]) {
+    if space < wide(columns[MEMORY][k]) {
         return false;
     }
-    if spare < loads[k] {
+    if spare < wide(columns[LOAD][k]) {
         return false;
     }
-    exclusions[k] & on == 0
+    columns[EXCLUSIONS][k] & on == 0
 }
 
 // The candidate k taken: the most weight with it, where it can stand there; else the best so far.
 fn take<'a>(
-    work: &'a [u32; 24],
-    period: &'a [u32; 24],
-    deadline: &'a [u32; 24],
-    priority: &'a [u32; 24],
-    higher: &'a [u32; 24],
-    memory: &'a [u32; 24],
-    exclusions: &'a [u32; 24],
-    loads: &'a [u64; 24],
-    weights: &'a [u64; 24],
-    guide: &'a [u32; 120],
+    timing: &'a Timing,
+    columns: &'a Columns,
+    weights: &'a [u32; 24],
     n: usize,
     on: u32,
     k: usize,
@@ -64,34 +58,20 @@ fn take<'a>(
     reach: u64,
     stop: u64,
     best: u64,
-    listing: bool,
+    mode: Mode,
     list: &mut [u8],
-    places: usize,
     count: usize,
-    known: &mut [u32; 16384],
+    known: &mut Known,
 ) -> Packed
-    requires { ⌜ Packs n (now work) (now period) (now deadline) (now priority) (now higher) places on candidates (now list) count
-        × (k < n) × (reach ≡ weight + getD (now weights) k 0 + weightOf n (now weights) candidates) × Knows (tasksOf n (now work) (now period) (now deadline) (now priority)) (now known) ⌝ }
-    ensures { λ r. ⌜ TakenAs n (tasksOf n (now (work .entry)) (now (period .entry)) (now (deadline .entry)) (now (priority .entry))) listing places (now (memory .entry)) (now (exclusions .entry)) (now (loads .entry)) (now (weights .entry)) on k candidates space spare weight stop best (now (list .entry)) count (now (list .exit)) r × Knows (tasksOf n (now (work .entry)) (now (period .entry)) (now (deadline .entry)) (now (priority .entry))) (now (known .exit)) ⌝ }
+    requires { ⌜ Packs n (now timing) (mode .places) on candidates (now list) count
+        × (k < n) × (reach ≡ weight + getD (now weights) k 0 + weightOf n (now weights) candidates) × Knows (tasksOf n (now timing)) (now known) ⌝ }
+    ensures { λ r. ⌜ TakenAs n (tasksOf n (now (timing .entry))) (mode .listing) (mode .places) (memoryRow (now (columns .entry))) (exclusionRow (now (columns .entry))) (loadRow (now (columns .entry))) (now (weights .entry)) on k candidates space spare weight stop best (now (list .entry)) count (now (list .exit)) r × Knows (tasksOf n (now (timing .entry))) (now (known .exit)) ⌝ }
 {
-    if !room(memory, exclusions, loads, on, space, spare, k) {
+    if !room(columns, on, space, spare, k) {
         return Packed { most: best, count };
     }
     let set = mask::insert(on, k);
-    let tested = ledger::test(
-        work,
-        period,
-        deadline,
-        priority,
-        higher,
-        n,
-        set,
-        listing,
-        list,
-        places,
-        count,
-        known,
-    );
+    let tested = ledger::test(timing, n, set, mode, list, count, known);
     if tested.bad {
         return Packed {
             most: best,
@@ -99,29 +79,21 @@ fn take<'a>(
         };
     }
     most(
-        work,
-        period,
-        deadline,
-        priority,
-        higher,
-        memory,
-        exclusions,
-        loads,
+        timing,
+        columns,
         weights,
-        guide,
         n,
         set,
         at,
         candidates,
-        space - wide(memory[k]),
-        spare - loads[k],
-        weight + weights[k],
+        space - wide(columns[MEMORY][k]),
+        spare - wide(columns[LOAD][k]),
+        weight + wide(weights[k]),
         reach,
         stop,
         best,
-        listing,
+        mode,
         list,
-        places,
         tested.count,
         known,
     )
@@ -130,16 +102,9 @@ fn take<'a>(
 // No less than the most weight that the processor can come to, of what is below `stop`: `weight` is taken, the candidates may be,
 // `reach` is the weight with all of them. They are tried in the guide's order from `at` on; those that it leaves out count in full.
 pub fn most<'a>(
-    work: &'a [u32; 24],
-    period: &'a [u32; 24],
-    deadline: &'a [u32; 24],
-    priority: &'a [u32; 24],
-    higher: &'a [u32; 24],
-    memory: &'a [u32; 24],
-    exclusions: &'a [u32; 24],
-    loads: &'a [u64; 24],
-    weights: &'a [u64; 24],
-    guide: &'a [u32; 120],
+    timing: &'a Timing,
+    columns: &'a Columns,
+    weights: &'a [u32; 24],
     n: usize,
     on: u32,
     at: usize,
@@ -150,15 +115,14 @@ pub fn most<'a>(
     reach: u64,
     stop: u64,
     best: u64,
-    listing: bool,
+    mode: Mode,
     list: &mut [u8],
-    places: usize,
     count: usize,
-    known: &mut [u32; 16384],
+    known: &mut Known,
 ) -> Packed
-    requires { ⌜ Packs n (now work) (now period) (now deadline) (now priority) (now higher) places on candidates (now list) count
-        × (reach ≡ weight + weightOf n (now weights) candidates) × Knows (tasksOf n (now work) (now period) (now deadline) (now priority)) (now known) ⌝ }
-    ensures { λ r. ⌜ PackedAs n (tasksOf n (now (work .entry)) (now (period .entry)) (now (deadline .entry)) (now (priority .entry))) listing places (now (memory .entry)) (now (exclusions .entry)) (now (loads .entry)) (now (weights .entry)) on candidates space spare weight stop best (now (list .entry)) count (now (list .exit)) r × Knows (tasksOf n (now (work .entry)) (now (period .entry)) (now (deadline .entry)) (now (priority .entry))) (now (known .exit)) ⌝ }
+    requires { ⌜ Packs n (now timing) (mode .places) on candidates (now list) count
+        × (reach ≡ weight + weightOf n (now weights) candidates) × Knows (tasksOf n (now timing)) (now known) ⌝ }
+    ensures { λ r. ⌜ PackedAs n (tasksOf n (now (timing .entry))) (mode .listing) (mode .places) (memoryRow (now (columns .entry))) (exclusionRow (now (columns .entry))) (loadRow (now (columns .entry))) (now (weights .entry)) on candidates space spare weight stop best (now (list .entry)) count (now (list .exit)) r × Knows (tasksOf n (now (timing .entry))) (now (known .exit)) ⌝ }
 {
     let mut next = at;
     let mut left = candidates;
@@ -170,21 +134,14 @@ pub fn most<'a>(
     }
     while next < 24 && top < stop && top < all {
         // The remainder costs nothing, and below 32 is all that `has` asks: a candidate is below n anyway.
-        let k = (guide[72 + next] % 32) as usize;
+        let k = (columns[ORDER][next] % 32) as usize;
         next += 1;
         if mask::has(left, k) {
             left = mask::remove(left, k);
             let taken = take(
-                work,
-                period,
-                deadline,
-                priority,
-                higher,
-                memory,
-                exclusions,
-                loads,
+                timing,
+                columns,
                 weights,
-                guide,
                 n,
                 on,
                 k,
@@ -196,15 +153,14 @@ pub fn most<'a>(
                 all,
                 stop,
                 top,
-                listing,
+                mode,
                 list,
-                places,
                 listed,
                 known,
             );
             top = taken.most;
             listed = taken.count;
-            all -= weights[k];
+            all -= wide(weights[k]);
         }
     }
     if top < stop && top < all {

@@ -13,18 +13,17 @@ use Rattle.mask.specs.Mask.{has}
 use Rattle.mask.proofs.Tests.{same-test, and-both, and-left, and-right}
 use Rattle.mask.proofs.Laws.{has-mask}
 use Rattle.table.specs.declared.Table.{Table}
-use Rattle.table.proofs.Columns.{column-in}
 use Rattle.rules.specs.Placement.{andTask, elsewhere}
-use Rattle.rules.specs.Rules.{amountOf, traffic, networkBroken, Keeps}
+use Rattle.rules.specs.Rules.{traffic, networkBroken, Keeps}
 use Rattle.rules.specs.Sets.{standing, meets}
-use Rattle.rules.proofs.Bounds.{amount-bound}
 use Rattle.rules.proofs.Where.{elsewhere-elim, elsewhere-intro}
-use Rattle.columns.specs.Columns.{loadsOf, amountsOf, excludedFrom, exclusionsOf}
+use Rattle.columns.specs.Columns.{besideOf, messagesOf, residenceRow, memoryRow, loadRow, exclusionRow, partnerRow}
+use Rattle.columns.proofs.Laws.{loads-get, neighbours-get, amounts-bound}
 use Rattle.partial.specs.declared.State.{State}
 use Rattle.partial.specs.declared.Sizes.{Sizes}
 use Rattle.partial.specs.Partial.{Lent, Fits, siteOf}
 use Rattle.partial.specs.declared.Site.{Site}
-use Rattle.partial.specs.Tests.{neither, suits, parted, between, SmallMessages, TrialOf}
+use Rattle.partial.specs.Tests.{neither, suits, between, SmallMessages, TrialOf}
 use Rattle.partial.proofs.OneMore as one
 
 -- the tasks on other processors than p, as the code finds them
@@ -76,8 +75,8 @@ others-stand {t} {s} f p j = has-mask n (λ i. not (has here i || has (s .left) 
         go r v d (inl x) = d (f .partial .once j r p v x)
         go r v d (inr x) = f .open-task j x .1 r v
 
-module _ {t : Table} {sizes : Sizes} {residence memory exclusions co sender receiver loads amounts : List ℕ} {s : State}
-    (e : Lent t sizes residence memory exclusions co sender receiver loads amounts) (f : Fits t s)
+module _ {t : Table} {sizes : Sizes} {columns links : List (List ℕ)} {s : State}
+    (e : Lent t sizes columns links) (f : Fits t s)
     (k p : ℕ) (free : T (has (s .left) k)) (low : p < sizes .processors) where
   task : k < t .tasks .count
   task = f .open-task k free .0
@@ -85,60 +84,65 @@ module _ {t : Table} {sizes : Sizes} {residence memory exclusions co sender rece
   on-table : p < t .processors .count
   on-table = omega (arith, e .processors)
 
-  excluded-at : getD exclusions k 0 ≡ excludedFrom t k
-  unfolding exclusionsOf
-  excluded-at = rw (e .same-exclusions) (column-in 24 (t .tasks .count) (excludedFrom t) k (e .sound .tasks .most) task)
+  excluded-at : getD (exclusionRow columns) k 0 ≡ besideOf (t .ex) (t .tasks .count) k
+  excluded-at = rw (e .same-exclusions) (neighbours-get t (e .sound) (t .ex) k task)
 
-  pub load-at : getD loads k 0 ≡ getD (t .tasks .c) k 0 * t .hyperperiod / getD (t .tasks .t) k 0
-  unfolding loadsOf
-  load-at = rw (e .same-loads) (column-in 24 (t .tasks .count) (λ i. getD (t .tasks .c) i 0 * t .hyperperiod / getD (t .tasks .t) i 0) k (e .sound .tasks .most) task)
+  partners-at : getD (partnerRow columns) k 0 ≡ besideOf (t .co) (t .tasks .count) k
+  partners-at = rw (e .same-partners) (neighbours-get t (e .sound) (t .co) k task)
+
+  pub load-at : getD (loadRow columns) k 0 ≡ getD (t .tasks .c) k 0 * t .hyperperiod / getD (t .tasks .t) k 0
+  load-at = rw (e .same-loads) (loads-get t (e .sound) k task)
 
   others-at : (j : ℕ) → has (othersThan sizes s p) j ≡ elsewhere (t .processors .count) p (standing (s .on) j)
   others-at j = rw (e .tasks) (others-stand f p j)
 
+  between-as : between (messagesOf t) (t .messages .count) k (othersThan sizes s p) ≡ between links (sizes .messages) k (othersThan sizes s p)
+  unfolding between
+  between-as = rw (e .same-sender, e .same-receiver, e .same-amounts, e .messages) refl
+
   -- what task k on p adds to the network
   pub traffic-with : traffic t (andTask (standing (s .on)) k p)
-      ≡ traffic t (standing (s .on)) + between sender receiver amounts (sizes .messages) k (othersThan sizes s p)
+      ≡ traffic t (standing (s .on)) + between links (sizes .messages) k (othersThan sizes s p)
   traffic-with =
       one.traffic-more t (e .sound) (standing (s .on)) (f .keeps) k p task on-table (f .open-task k free .1) (othersThan sizes s p) others-at
-      ∙ rw (e .same-sender, e .same-receiver, e .same-amounts, e .messages) refl
+      ∙ ap (λ (x : ℕ). traffic t (standing (s .on)) + x) between-as
 
   -- ---- rules that are kept
 
-  pub keeps-memory : KeepsWith t s k p → getD memory k 0 ≤ getD (s .memory) p 0
+  pub keeps-memory : KeepsWith t s k p → getD (memoryRow columns) k 0 ≤ getD (s .memory) p 0
   keeps-memory keeps = rw (e .same-memory)
       (one.memory-needed t (e .sound) (standing (s .on)) (f .keeps) k p task on-table (f .open-task k free .1) (getD (s .memory) p 0) (f .memory p on-table) keeps)
 
-  pub keeps-load : KeepsWith t s k p → getD loads k 0 ≤ getD (s .load) p 0
+  pub keeps-load : KeepsWith t s k p → getD (loadRow columns) k 0 ≤ getD (s .load) p 0
   keeps-load keeps = rw load-at
       (one.utilisation-needed t (e .sound) (standing (s .on)) (f .keeps) k p task on-table (f .open-task k free .1) (getD (s .load) p 0) (f .load p on-table) keeps)
 
-  pub keeps-whole : KeepsWith t s k p → T (parted co (sizes .groups) k (othersThan sizes s p)) → ⊥
-  keeps-whole keeps = rw (e .same-co, e .groups)
-      (one.co-residence-needed t (e .sound) (standing (s .on)) (f .keeps) k p task on-table (othersThan sizes s p) others-at keeps)
+  pub keeps-whole : KeepsWith t s k p → T (meets (getD (partnerRow columns) k 0) (othersThan sizes s p)) → ⊥
+  keeps-whole keeps = rw partners-at
+      (one.co-residence-needed t (e .sound) (standing (s .on)) (f .keeps) k p task on-table (f .open-task k free .1) (othersThan sizes s p) others-at keeps)
 
-  pub keeps-carries : KeepsWith t s k p → between sender receiver amounts (sizes .messages) k (othersThan sizes s p) ≤ s .traffic
+  pub keeps-carries : KeepsWith t s k p → between links (sizes .messages) k (othersThan sizes s p) ≤ s .traffic
   unfolding networkBroken
   keeps-carries keeps =
       omega (arith, traffic-with, f .traffic, one.kept-le (t .capacity * t .hyperperiod) (traffic t (andTask (standing (s .on)) k p)) (keeps .network))
 
   -- what the task itself asks of p
-  pub keeps-suits : KeepsWith t s k p → T (suits residence memory exclusions loads (siteOf s p) k p)
+  pub keeps-suits : KeepsWith t s k p → T (suits columns (siteOf s p) k p)
   unfolding suits
   keeps-suits keeps =
       let old = f .keeps in
-      and-both (has (getD residence k 0) p && leb (getD memory k 0) (getD (s .memory) p 0)) _
-      (and-both (has (getD residence k 0) p) _
+      and-both (has (getD (residenceRow columns) k 0) p && leb (getD (memoryRow columns) k 0) (getD (s .memory) p 0)) _
+      (and-both (has (getD (residenceRow columns) k 0) p) _
       (rw (e .same-residence) (one.residence-needed t (e .sound) (standing (s .on)) old k p task on-table keeps))
       (le→leb _ _ (keeps-memory keeps)))
-      (and-both (leb (getD loads k 0) (getD (s .load) p 0)) _
+      (and-both (leb (getD (loadRow columns) k 0) (getD (s .load) p 0)) _
       (le→leb _ _ (keeps-load keeps))
-      (not-T (meets (getD exclusions k 0) (getD (s .on) p 0)) (rw excluded-at (one.exclusion-needed t (e .sound) (standing (s .on)) old k p task on-table (getD (s .on) p 0) (λ j. refl) keeps))))
+      (not-T (meets (getD (exclusionRow columns) k 0) (getD (s .on) p 0)) (rw excluded-at (one.exclusion-needed t (e .sound) (standing (s .on)) old k p task on-table (getD (s .on) p 0) (λ j. refl) keeps))))
 
   -- tests that pass
-  pub tests-keep : T (suits residence memory exclusions loads (siteOf s p) k p)
-      → (T (parted co (sizes .groups) k (othersThan sizes s p)) → ⊥)
-      → between sender receiver amounts (sizes .messages) k (othersThan sizes s p) ≤ s .traffic
+  pub tests-keep : T (suits columns (siteOf s p) k p)
+      → (T (meets (getD (partnerRow columns) k 0) (othersThan sizes s p)) → ⊥)
+      → between links (sizes .messages) k (othersThan sizes s p) ≤ s .traffic
       → KeepsWith t s k p
   unfolding suits networkBroken
   tests-keep u whole carries =
@@ -146,58 +150,57 @@ module _ {t : Table} {sizes : Sizes} {residence memory exclusions co sender rece
       let sound = e .sound in
       let on = standing (s .on) in
       let new = f .open-task k free .1 in
-      let first = and-left (has (getD residence k 0) p && leb (getD memory k 0) (getD (s .memory) p 0)) _ u in
-      let second = and-right (has (getD residence k 0) p && leb (getD memory k 0) (getD (s .memory) p 0)) _ u in
+      let first = and-left (has (getD (residenceRow columns) k 0) p && leb (getD (memoryRow columns) k 0) (getD (s .memory) p 0)) _ u in
+      let second = and-right (has (getD (residenceRow columns) k 0) p && leb (getD (memoryRow columns) k 0) (getD (s .memory) p 0)) _ u in
       record {
-        residence = one.residence-kept t sound on old k p task on-table (rw (e .same-residence) at (and-left (has (getD residence k 0) p) _ first));
-        co-residence = one.co-residence-kept t sound on old k p task on-table (othersThan sizes s p) others-at (rw (e .same-co, e .groups) at whole);
+        residence = one.residence-kept t sound on old k p task on-table (rw (e .same-residence) at (and-left (has (getD (residenceRow columns) k 0) p) _ first));
+        co-residence = one.co-residence-kept t sound on old k p task on-table new (othersThan sizes s p) others-at (rw partners-at at whole);
         exclusion = one.exclusion-kept t sound on old k p task on-table (getD (s .on) p 0) (λ j. refl)
-            (rw excluded-at at (T-not (meets (getD exclusions k 0) (getD (s .on) p 0)) (and-right (leb (getD loads k 0) (getD (s .load) p 0)) _ second)));
+            (rw excluded-at at (T-not (meets (getD (exclusionRow columns) k 0) (getD (s .on) p 0)) (and-right (leb (getD (loadRow columns) k 0) (getD (s .load) p 0)) _ second)));
         memory = one.memory-kept t sound on old k p task on-table new (getD (s .memory) p 0) (f .memory p on-table)
-            (rw (e .same-memory) at (leb→le (getD memory k 0) (getD (s .memory) p 0) (and-right (has (getD residence k 0) p) _ first)));
+            (rw (e .same-memory) at (leb→le (getD (memoryRow columns) k 0) (getD (s .memory) p 0) (and-right (has (getD (residenceRow columns) k 0) p) _ first)));
         utilisation = one.utilisation-kept t sound on old k p task on-table new (getD (s .load) p 0) (f .load p on-table)
-            (rw load-at at (leb→le (getD loads k 0) (getD (s .load) p 0) (and-left (leb (getD loads k 0) (getD (s .load) p 0)) _ second)));
+            (rw load-at at (leb→le (getD (loadRow columns) k 0) (getD (s .load) p 0) (and-left (leb (getD (loadRow columns) k 0) (getD (s .load) p 0)) _ second)));
         network = one.le-kept (t .capacity * t .hyperperiod) (traffic t (andTask on k p)) (omega (arith, traffic-with, f .traffic));
       }
 
   -- ---- the answer, as the code comes to it
 
-  pub own-test-fails : {own : Bool} → own ≡ suits residence memory exclusions loads (siteOf s p) k p → not own ≡ true → KeepsWith t s k p → ⊥
+  pub own-test-fails : {own : Bool} → own ≡ suits columns (siteOf s p) k p → not own ≡ true → KeepsWith t s k p → ⊥
   own-test-fails {own} a no-own keeps = rw (← a, not-true own no-own) at (keeps-suits keeps)
 
   module _ {others : ℕ} (o : others ≡ othersThan sizes s p) where
-    pub group-parted : {apart : Bool} → apart ≡ parted co (sizes .groups) k others → apart ≡ true → KeepsWith t s k p → ⊥
-    group-parted b is-apart keeps = keeps-whole keeps (rw (← o, ← b, is-apart) tt)
+    pub group-parted : T (meets (getD (partnerRow columns) k 0) others) → KeepsWith t s k p → ⊥
+    group-parted apart keeps = keeps-whole keeps (rw (← o) apart)
 
     -- the last test decides
-    pub network-decides : {own apart : Bool} {added : ℕ} → own ≡ suits residence memory exclusions loads (siteOf s p) k p → not own ≡ false → apart ≡ parted co (sizes .groups) k others → apart ≡ false
-        → added ≡ between sender receiver amounts (sizes .messages) k others → TrialOf t s k p (leb added (s .traffic)) added
-    network-decides {own} {apart} {added} a is-own b not-apart d = go (leb added (s .traffic)) refl
+    pub network-decides : {own : Bool} {added : ℕ} → own ≡ suits columns (siteOf s p) k p → not own ≡ false → (T (meets (getD (partnerRow columns) k 0) others) → ⊥)
+        → added ≡ between links (sizes .messages) k others → TrialOf t s k p (leb added (s .traffic)) added
+    network-decides {own} {added} a is-own whole d = go (leb added (s .traffic)) refl
       where
-        sum : added ≡ between sender receiver amounts (sizes .messages) k (othersThan sizes s p)
+        sum : added ≡ between links (sizes .messages) k (othersThan sizes s p)
         sum = rw (← o) d
 
         go : (x : Bool) → leb added (s .traffic) ≡ x → TrialOf t s k p x added
         go true q = record {
-          keeps = tests-keep (rw (← a, not-false own is-own) tt) (rw (← o, ← b, not-apart) (λ u. u)) (omega (arith, leb-true added (s .traffic) q, sum));
+          keeps = tests-keep (rw (← a, not-false own is-own) tt) (rw (← o) whole) (omega (arith, leb-true added (s .traffic) q, sum));
           traffic = rw sum traffic-with;
         }
         go false q = λ keeps. omega (arith, leb-false added (s .traffic) q, sum, keeps-carries keeps)
 
   -- ---- what the columns and sizes are below
 
-  pub bounds : (k < 24) × (p < 8) × (sizes .tasks ≤ 24) × (sizes .groups ≤ 16)
+  pub bounds : (k < 24) × (p < 8) × (sizes .tasks ≤ 24)
   bounds =
       let sound = e .sound in
-      (omega (arith, task, sound .tasks .most), omega (arith, sound .processors .most, on-table), omega (arith, e .tasks, sound .tasks .most), omega (arith, e .groups, sound .co .most))
+      (omega (arith, task, sound .tasks .most), omega (arith, sound .processors .most, on-table), omega (arith, e .tasks, sound .tasks .most))
 
-  pub carried : SmallMessages sender receiver amounts (sizes .messages)
-  unfolding amountsOf
+  pub carried : SmallMessages links (sizes .messages)
   carried =
       let sound = e .sound in
       record {
         few = omega (arith, e .messages, sound .messages .most);
         from-task = λ j l. rw (e .same-sender) (omega (arith, e .messages, sound .messages .from-task j (omega (arith, e .messages)), sound .tasks .most));
         to-task = λ j l. rw (e .same-receiver) (omega (arith, e .messages, sound .messages .to-task j (omega (arith, e .messages)), sound .tasks .most));
-        small = λ j l. rw (e .same-amounts, column-in 64 (t .messages .count) (amountOf t) j (sound .messages .most) (omega (arith, e .messages))) (amount-bound t sound j (omega (arith, e .messages)) .1);
+        small = λ j l. rw (e .same-amounts) (amounts-bound t sound j);
       }

@@ -4,7 +4,7 @@ use mathlib.Core.Bool.{Bool, true, false, not, _||_, and-true}
 use Prim.Native.Nat.{ℕ, zero, suc, _+_, _-_, _*_, _/_, _%_, _^_, _≤_, _<_}
 use native.Mathlib.Nat.{lt-of-le-of-lt, lt-of-lt-of-le, mod-eq-of-lt, pow-suc}
 use native.Mathlib.Omega.{arith}
-use borrow.Author.Tests.{lt-ltb}
+use borrow.Author.Tests.{lt-ltb, eq-eqb, ne-eqb}
 use lib.Bits.{bitAnd, bitOr, bitXor, differ, and-le-l, and-mask, xor-add-and, xor-shr, xor-step}
 use lib.Dec.{T, eqb, ltb, eqb→eq, T-not, not-T, eqb-refl}
 use lib.Pow.{pow-mono, pow-pos}
@@ -47,6 +47,15 @@ neither-mask n all a b few e small =
     (lt-of-lt-of-le (mask-lt n (λ j. not (has b j || has a j))) (pow-mono few))
     (λ k l. has-and all (2 ^ 32 - 1 - bitOr a b) k
     ∙ rw (e, has-not 32 (bitOr a b) k small l, has-mask n (λ j. true) k, and-true (ltb k n), has-or a b k, has-mask n (λ j. not (has b j || has a j)) k) refl)
+
+-- as the code tests it
+pub meets-if : (a b : ℕ) → (bitAnd a b ≡ 0 → ⊥) → T (meets a b)
+unfolding meets
+meets-if a b d = rw (ne-eqb (bitAnd a b) 0 d) tt
+
+pub meets-not : (a b : ℕ) → bitAnd a b ≡ 0 → T (meets a b) → ⊥
+unfolding meets
+meets-not a b e t = rw (eq-eqb (bitAnd a b) 0 e) at t
 
 -- a number in both sets, and the other way round
 pub meets-elim : (w a b : ℕ) → a < 2 ^ w → T (meets a b) → (k : ℕ) × T (has a k) × T (has b k)

@@ -21,8 +21,9 @@ use Rattle.rules.specs.Rules.{residenceBroken, coResidenceBroken, exclusionBrok
 use Rattle.rules.specs.Sets.{meets}
 use Rattle.rules.proofs.Where.{differ, different, elsewhere-elim, elsewhere-intro, apart-elim, apart-intro, together-elim, together-intro, pair-elim, pair-intro}
 use Rattle.rules.proofs.Step.{step-memory, step-memory-other, step-load, step-load-other, step-traffic}
-use Rattle.columns.specs.Columns.{amountsOf, excludedFrom}
-use Rattle.partial.specs.Tests.{parted, joins, between}
+use Rattle.columns.specs.Columns.{amountsOf, besideOf, messagesOf}
+use Rattle.columns.proofs.Laws.{beside-in, beside-out, beside-below}
+use Rattle.partial.specs.Tests.{joins, between}
 use Rattle.partial.proofs.MaskSets.{meets-elim, meets-intro}
 
 -- task k stands on p too: an old place, or the new one
@@ -93,9 +94,9 @@ module _ (t : Table) (sound : Sound t) (on : ℕ → ℕ → Bool) (old : Keeps 
 
   -- ---- co-residence
 
-  module _ (others : ℕ) (o : (j : ℕ) → has others j ≡ elsewhere (t .processors .count) p (on j)) where
-    pub co-residence-kept : (T (parted (t .co .mask) (t .co .count) k others) → ⊥) → (g : ℕ) → g < t .co .count → T (coResidenceBroken t (andTask on k p) g) → ⊥
-    unfolding parted coResidenceBroken
+  module _ (new : (r : ℕ) → T (on k r) → ⊥) (others : ℕ) (o : (j : ℕ) → has others j ≡ elsewhere (t .processors .count) p (on j)) where
+    pub co-residence-kept : (T (meets (besideOf (t .co) (t .tasks .count) k) others) → ⊥) → (g : ℕ) → g < t .co .count → T (coResidenceBroken t (andTask on k p) g) → ⊥
+    unfolding coResidenceBroken
     co-residence-kept whole g l b =
         let m = t .processors .count in
         let s = pair-elim (t .tasks .count) group (λ i j. apart m (andTask on k p i) (andTask on k p j)) b in
@@ -106,38 +107,38 @@ module _ (t : Table) (sound : Sound t) (on : ℕ → ℕ → Bool) (old : Keeps 
         group = getD (t .co .mask) g 0
 
         -- a task of k's group elsewhere
-        split : (j r : ℕ) → r < t .processors .count → r ≢ p → T (on j r) → T (has group k) → T (has group j) → ⊥
-        split j r h d u in-k in-j =
-            whole (some-intro (t .co .count) (λ i. has (getD (t .co .mask) i 0) k && meets (getD (t .co .mask) i 0) others) g l
-            (and-both (has group k) (meets group others) in-k (meets-intro group others j in-j (rw (o j) (elsewhere-intro (t .processors .count) (on j) h d u)))))
+        split : (j r : ℕ) → j < t .tasks .count → r < t .processors .count → r ≢ p → T (on j r) → T (has group k) → T (has group j) → ⊥
+        split j r lj h d u in-k in-j =
+            whole (meets-intro (besideOf (t .co) (t .tasks .count) k) others j
+            (beside-in (t .co) (t .tasks .count) k j g lj (λ e. new r (rw e at u)) l in-k in-j)
+            (rw (o j) (elsewhere-intro (t .processors .count) (on j) h d u)))
 
         go : (i j : ℕ) → i < t .tasks .count → j < t .tasks .count → T (has group i) → T (has group j) → (q r : ℕ) → q < t .processors .count → r < t .processors .count → r ≢ q
             → ((i ≡ k) × (q ≡ p)) ⊎ T (on i q) → ((j ≡ k) × (r ≡ p)) ⊎ T (on j r) → ⊥
         go i j li lj in-i in-j q r lq lr d (inl x) (inl y) = d (y .1 ∙ sym (x .1))
-        go i j li lj in-i in-j q r lq lr d (inl x) (inr v) = split j r lr (λ e. d (e ∙ sym (x .1))) v (rw (x .0) at in-i) in-j
-        go i j li lj in-i in-j q r lq lr d (inr u) (inl y) = split i q lq (λ e. d (y .1 ∙ sym e)) u (rw (y .0) at in-j) in-i
+        go i j li lj in-i in-j q r lq lr d (inl x) (inr v) = split j r lj lr (λ e. d (e ∙ sym (x .1))) v (rw (x .0) at in-i) in-j
+        go i j li lj in-i in-j q r lq lr d (inr u) (inl y) = split i q li lq (λ e. d (y .1 ∙ sym e)) u (rw (y .0) at in-j) in-i
         go i j li lj in-i in-j q r lq lr d (inr u) (inr v) =
             old .co-residence g l (pair-intro (t .tasks .count) group (λ i j. apart (t .processors .count) (on i) (on j)) i j li lj in-i in-j (apart-intro (t .processors .count) (on i) (on j) lq lr d u v))
 
-    pub co-residence-needed : Keeps t (andTask on k p) → T (parted (t .co .mask) (t .co .count) k others) → ⊥
-    unfolding parted coResidenceBroken
+    pub co-residence-needed : Keeps t (andTask on k p) → T (meets (besideOf (t .co) (t .tasks .count) k) others) → ⊥
+    unfolding coResidenceBroken
     co-residence-needed keeps b =
         let n = t .tasks .count in
         let m = t .processors .count in
-        let g = some-elim (t .co .count) (λ i. has (getD (t .co .mask) i 0) k && meets (getD (t .co .mask) i 0) others) b in
-        let group = getD (t .co .mask) (g .0) 0 in
-        let small = sound .co .below (g .0) (g .1) in
-        let j = meets-elim n group others small (and-right (has group k) (meets group others) (g .2)) in
-        let e = elsewhere-elim m (on (j .0)) (rw (o (j .0)) at (j .2)) in
-        keeps .co-residence (g .0) (g .1)
-        (pair-intro n group (λ i j. apart m (andTask on k p i) (andTask on k p j)) k (j .0) task (below-has n group (lt→ltb group (2 ^ n) small) (j .0) (j .1)) (and-left (has group k) (meets group others) (g .2)) (j .1)
-        (apart-intro m (andTask on k p k) (andTask on k p (j .0)) low (e .1) (e .2) (stands on k p) (stays on k p (j .0) (e .0) (e .3))))
+        let r = meets-elim n (besideOf (t .co) n k) others (beside-below (t .co) n k) b in
+        let j = r .0 in
+        let g = beside-out (t .co) n k j (r .1) in
+        let e = elsewhere-elim m (on j) (rw (o j) at (r .2)) in
+        keeps .co-residence (g .2) (g .3)
+        (pair-intro n (getD (t .co .mask) (g .2) 0) (λ i j. apart m (andTask on k p i) (andTask on k p j)) k j task (g .0) (g .4) (g .5)
+        (apart-intro m (andTask on k p k) (andTask on k p j) low (e .1) (e .2) (stands on k p) (stays on k p j (e .0) (e .3))))
 
   -- ---- exclusion
 
   module _ (here : ℕ) (h : (j : ℕ) → has here j ≡ on j p) where
-    pub exclusion-kept : (T (meets (excludedFrom t k) here) → ⊥) → (g : ℕ) → g < t .ex .count → T (exclusionBroken t (andTask on k p) g) → ⊥
-    unfolding exclusionBroken excludedFrom
+    pub exclusion-kept : (T (meets (besideOf (t .ex) (t .tasks .count) k) here) → ⊥) → (g : ℕ) → g < t .ex .count → T (exclusionBroken t (andTask on k p) g) → ⊥
+    unfolding exclusionBroken
     exclusion-kept alone g l b =
         let m = t .processors .count in
         let s = pair-elim (t .tasks .count) group (λ i j. not (eqb i j) && together m (andTask on k p i) (andTask on k p j)) b in
@@ -150,18 +151,9 @@ module _ (t : Table) (sound : Sound t) (on : ℕ → ℕ → Bool) (old : Keeps 
         group : ℕ
         group = getD (t .ex .mask) g 0
 
-        excludes : ℕ → Bool
-        excludes j = not (eqb j k) && someBelow (t .ex .count) (λ i. has (getD (t .ex .mask) i 0) k && has (getD (t .ex .mask) i 0) j)
-
         -- a task of k's group on p
         beside : (j : ℕ) → j < t .tasks .count → j ≢ k → T (on j p) → T (has group k) → T (has group j) → ⊥
-        beside j lj d u in-k in-j =
-            alone (meets-intro (excludedFrom t k) here j
-            (rw (has-mask (t .tasks .count) excludes j)
-            (and-both (ltb j (t .tasks .count)) (excludes j) (lt→ltb j (t .tasks .count) lj)
-            (and-both (not (eqb j k)) _ (differ j k d)
-            (some-intro (t .ex .count) (λ i. has (getD (t .ex .mask) i 0) k && has (getD (t .ex .mask) i 0) j) g l (and-both (has group k) (has group j) in-k in-j)))))
-            (rw (h j) u))
+        beside j lj d u in-k in-j = alone (meets-intro (besideOf (t .ex) (t .tasks .count) k) here j (beside-in (t .ex) (t .tasks .count) k j g lj d l in-k in-j) (rw (h j) u))
 
         go : (i j : ℕ) → i < t .tasks .count → j < t .tasks .count → T (has group i) → T (has group j) → i ≢ j → (q : ℕ) → q < t .processors .count
             → ((i ≡ k) × (q ≡ p)) ⊎ T (on i q) → ((j ≡ k) × (q ≡ p)) ⊎ T (on j q) → ⊥
@@ -172,28 +164,18 @@ module _ (t : Table) (sound : Sound t) (on : ℕ → ℕ → Bool) (old : Keeps 
             old .exclusion g l (pair-intro (t .tasks .count) group (λ i j. not (eqb i j) && together (t .processors .count) (on i) (on j)) i j li lj in-i in-j
             (and-both (not (eqb i j)) (together (t .processors .count) (on i) (on j)) (differ i j d) (together-intro (t .processors .count) (on i) (on j) lq u v)))
 
-    pub exclusion-needed : Keeps t (andTask on k p) → T (meets (excludedFrom t k) here) → ⊥
-    unfolding exclusionBroken excludedFrom
+    pub exclusion-needed : Keeps t (andTask on k p) → T (meets (besideOf (t .ex) (t .tasks .count) k) here) → ⊥
+    unfolding exclusionBroken
     exclusion-needed keeps b =
         let n = t .tasks .count in
         let m = t .processors .count in
-        let r = meets-elim n (excludedFrom t k) here (mask-lt n excludes) b in
+        let r = meets-elim n (besideOf (t .ex) n k) here (beside-below (t .ex) n k) b in
         let j = r .0 in
-        let e = rw (has-mask n excludes j) at (r .1) in
-        let x = and-right (ltb j n) (excludes j) e in
-        let g = some-elim (t .ex .count) (shared j) (and-right (not (eqb j k)) (someBelow (t .ex .count) (shared j)) x) in
-        let group = getD (t .ex .mask) (g .0) 0 in
-        keeps .exclusion (g .0) (g .1)
-        (pair-intro n group (λ i j. not (eqb i j) && together m (andTask on k p i) (andTask on k p j)) j k (ltb→lt j n (and-left (ltb j n) (excludes j) e)) task
-        (and-right (has group k) (has group j) (g .2)) (and-left (has group k) (has group j) (g .2))
-        (and-both (not (eqb j k)) (together m (andTask on k p j) (andTask on k p k)) (and-left (not (eqb j k)) (someBelow (t .ex .count) (shared j)) x)
+        let g = beside-out (t .ex) n k j (r .1) in
+        keeps .exclusion (g .2) (g .3)
+        (pair-intro n (getD (t .ex .mask) (g .2) 0) (λ i j. not (eqb i j) && together m (andTask on k p i) (andTask on k p j)) j k (g .0) task (g .5) (g .4)
+        (and-both (not (eqb j k)) (together m (andTask on k p j) (andTask on k p k)) (differ j k (g .1))
         (together-intro m (andTask on k p j) (andTask on k p k) low (stays on k p j p (rw (h j) at (r .2))) (stands on k p))))
-      where
-        shared : ℕ → ℕ → Bool
-        shared j i = has (getD (t .ex .mask) i 0) k && has (getD (t .ex .mask) i 0) j
-
-        excludes : ℕ → Bool
-        excludes j = not (eqb j k) && someBelow (t .ex .count) (shared j)
 
   -- ---- memory, utilisation and network, from what is left of each
 
@@ -231,7 +213,7 @@ module _ (t : Table) (sound : Sound t) (on : ℕ → ℕ → Bool) (old : Keeps 
         omega (arith, step-load t on k p task (new p), of-thousandths now most (kept-le most (1000 * now) (keeps .utilisation p low)))
 
     module _ (others : ℕ) (o : (j : ℕ) → has others j ≡ elsewhere (t .processors .count) p (on j)) where
-      pub traffic-more : traffic t (andTask on k p) ≡ traffic t on + between (t .messages .sender) (t .messages .receiver) (amountsOf t) (t .messages .count) k others
+      pub traffic-more : traffic t (andTask on k p) ≡ traffic t on + between (messagesOf t) (t .messages .count) k others
       unfolding between amountsOf
       traffic-more =
           step-traffic t sound on k p low new

@@ -11,26 +11,26 @@ use Rattle.table.specs.Sound.{Sound}
 use Rattle.rules.specs.Placement.{andTask}
 use Rattle.rules.specs.Rules.{Keeps, memoryOn, loadOn, traffic}
 use Rattle.rules.specs.Sets.{standing}
-use Rattle.columns.specs.Columns.{loadsOf, amountsOf, exclusionsOf}
+use Rattle.columns.specs.Columns.{loadsOf, amountsOf, exclusionsOf, partnersOf, residenceRow, memoryRow, loadRow, exclusionRow, partnerRow, weightsIn, senderRow, receiverRow, amountRow}
 use Rattle.partial.specs.declared.State.{State}
 use Rattle.partial.specs.declared.Sizes.{Sizes}
 use Rattle.partial.specs.declared.Site.{Site}
 
 -- the table whose columns are lent to the search
-pub record Lent (t : Table) (sizes : Sizes) (residence memory exclusions co sender receiver loads amounts : List ℕ) : Type 0 where
+pub record Lent (t : Table) (sizes : Sizes) (columns links : List (List ℕ)) : Type 0 where
   pub sound : Sound t
   pub tasks : sizes .tasks ≡ t .tasks .count
   pub processors : sizes .processors ≡ t .processors .count
-  pub groups : sizes .groups ≡ t .co .count
   pub messages : sizes .messages ≡ t .messages .count
-  pub same-residence : residence ≡ t .tasks .residence
-  pub same-memory : memory ≡ t .tasks .memory
-  pub same-exclusions : exclusions ≡ exclusionsOf t
-  pub same-co : co ≡ t .co .mask
-  pub same-sender : sender ≡ t .messages .sender
-  pub same-receiver : receiver ≡ t .messages .receiver
-  pub same-loads : loads ≡ loadsOf t
-  pub same-amounts : amounts ≡ amountsOf t
+  pub same-residence : residenceRow columns ≡ t .tasks .residence
+  pub same-memory : memoryRow columns ≡ t .tasks .memory
+  pub same-loads : loadRow columns ≡ loadsOf t
+  pub same-exclusions : exclusionRow columns ≡ exclusionsOf t
+  pub same-partners : partnerRow columns ≡ partnersOf t
+  pub light : (k : ℕ) → getD (weightsIn columns 2) k 0 < 4294967296
+  pub same-sender : senderRow links ≡ t .messages .sender
+  pub same-receiver : receiverRow links ≡ t .messages .receiver
+  pub same-amounts : amountRow links ≡ amountsOf t
 
 -- tasks of the table on its processors, none on two of them
 pub record Partial (t : Table) (sets : List ℕ) : Type 0 where

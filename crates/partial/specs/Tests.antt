@@ -5,12 +5,13 @@ use mathlib.Core.Path.{_≡_}
 use Prim.Native.Nat.{ℕ, _+_, _-_, _≤_, _<_}
 use lib.Dec.{eqb, leb}
 use lib.ListN.{getD, set}
-use Rattle.finite.specs.Finite.{only, sumTo, someBelow, firstBelow}
+use Rattle.finite.specs.Finite.{only, sumTo, firstBelow}
 use Rattle.mask.specs.Mask.{has, insertOf, removeOf, maskOf}
 use Rattle.table.specs.declared.Table.{Table}
 use Rattle.rules.specs.Placement.{andTask}
 use Rattle.rules.specs.Rules.{Keeps, traffic}
 use Rattle.rules.specs.Sets.{standing, meets}
+use Rattle.columns.specs.Columns.{residenceRow, memoryRow, loadRow, exclusionRow, senderRow, receiverRow, amountRow}
 use Rattle.partial.specs.declared.State.{State}
 use Rattle.partial.specs.declared.Site.{Site}
 use Rattle.partial.specs.declared.Trial.{Trial}
@@ -21,29 +22,25 @@ unfoldable pub neither : ℕ → ℕ → ℕ → ℕ
 neither n a b = maskOf n (λ j. not (has b j || has a j))
 
 -- the task's processor, its memory and its load fit what p has left, and no task on p is excluded from it
-unfoldable pub suits : List ℕ → List ℕ → List ℕ → List ℕ → Site → ℕ → ℕ → Bool
-suits residence memory exclusions loads site k p =
-    (has (getD residence k 0) p && leb (getD memory k 0) (site .memory))
-    && (leb (getD loads k 0) (site .load) && not (meets (getD exclusions k 0) (site .on)))
-
--- a co-residence group of task k has one of the others
-unfoldable pub parted : List ℕ → ℕ → ℕ → ℕ → Bool
-parted co groups k others = someBelow groups (λ g. has (getD co g 0) k && meets (getD co g 0) others)
+unfoldable pub suits : List (List ℕ) → Site → ℕ → ℕ → Bool
+suits columns site k p =
+    (has (getD (residenceRow columns) k 0) p && leb (getD (memoryRow columns) k 0) (site .memory))
+    && (leb (getD (loadRow columns) k 0) (site .load) && not (meets (getD (exclusionRow columns) k 0) (site .on)))
 
 -- a message goes between task k and one of the others
 abbrev pub joins : ℕ → ℕ → ℕ → ℕ → Bool
 joins k others from to = (eqb from k && has others to) || (eqb to k && has others from)
 
 -- what such messages amount to
-unfoldable pub between : List ℕ → List ℕ → List ℕ → ℕ → ℕ → ℕ → ℕ
-between sender receiver amounts messages k others = sumTo messages (λ j. only (joins k others (getD sender j 0) (getD receiver j 0)) (getD amounts j 0))
+unfoldable pub between : List (List ℕ) → ℕ → ℕ → ℕ → ℕ
+between links count k others = sumTo count (λ j. only (joins k others (getD (senderRow links) j 0) (getD (receiverRow links) j 0)) (getD (amountRow links) j 0))
 
 -- messages between tasks, small enough that their sum fits
-pub record SmallMessages (sender receiver amounts : List ℕ) (messages : ℕ) : Type 0 where
-  pub few : messages ≤ 64
-  pub from-task : (j : ℕ) → j < messages → getD sender j 0 < 32
-  pub to-task : (j : ℕ) → j < messages → getD receiver j 0 < 32
-  pub small : (j : ℕ) → j < messages → getD amounts j 0 ≤ 1000000000000000
+pub record SmallMessages (links : List (List ℕ)) (count : ℕ) : Type 0 where
+  pub few : count ≤ 64
+  pub from-task : (j : ℕ) → j < count → getD (senderRow links) j 0 < 32
+  pub to-task : (j : ℕ) → j < count → getD (receiverRow links) j 0 < 32
+  pub small : (j : ℕ) → j < count → getD (amountRow links) j 0 ≤ 1000000000000000
 
 -- the rules would be broken with task k on p, or they are kept and it adds so much to the network
 pub record Tried (t : Table) (s : State) (k p added : ℕ) : Type 0 where

@@ -12,14 +12,23 @@ ghost use Rattle.rules.specs.Rules.{Keeps};
 ghost use Rattle.rules.specs.Sets.{standing};
 ghost use Rattle.partial.specs.declared.State.{State};
 ghost use Rattle.partial.specs.Partial.{Lent, siteOf, Whole, Fits, StepOf, Started, Names};
-ghost use Rattle.partial.specs.Tests.{neither, suits, parted, joins, between, SmallMessages, TrialOf, Enough, stepAfter, processorOf};
+ghost use Rattle.partial.specs.Tests.{neither, suits, joins, between, SmallMessages, TrialOf, Enough, stepAfter, processorOf};
+use columns::AMOUNT;
+use columns::Columns;
+use columns::EXCLUSIONS;
+use columns::LOAD;
+use columns::MEMORY;
+use columns::Messages;
+use columns::PARTNERS;
+use columns::RECEIVER;
+use columns::RESIDENCE;
+use columns::SENDER;
 use table::Table;
 
 // How many there are of each.
 pub struct Sizes {
     pub tasks: usize,
     pub processors: usize,
-    pub groups: usize,
     pub messages: usize,
 }
 
@@ -65,80 +74,50 @@ fn neither(n: usize, a: u32, b: u32) -> u32
 }
 
 // Whether processor p is one of task k's, has its memory and load left, and has no task that may not stand beside it.
-fn suits<'a>(
-    residence: &'a [u32; 24],
-    memory: &'a [u32; 24],
-    exclusions: &'a [u32; 24],
-    loads: &'a [u64; 24],
-    site: Site,
-    k: usize,
-    p: usize,
-) -> bool
+fn suits(columns: &Columns, site: Site, k: usize, p: usize) -> bool
     requires { ⌜ (k < 24) × (p < 32) ⌝ }
-    ensures { λ r. ⌜ r ≡ suits (now (residence .entry)) (now (memory .entry)) (now (exclusions .entry)) (now (loads .entry)) site k p ⌝ }
+    ensures { λ r. ⌜ r ≡ suits (now (columns .entry)) site k p ⌝ }
 {
-    if !mask::has(residence[k], p) {
+    if !mask::has(columns[RESIDENCE][k], p) {
         return false;
     }
-    if site.memory < wide(memory[k]) {
+    if site.memory < wide(columns[MEMORY][k]) {
         return false;
     }
-    if site.load < loads[k] {
+    if site.load < wide(columns[LOAD][k]) {
         return false;
     }
-    exclusions[k] & site.on == 0
-}
-
-// Whether a co-residence group of task k has one of the others.
-fn parted(co: &[u32; 16], groups: usize, k: usize, others: u32) -> bool
-    requires { ⌜ (groups ≤ 16) × (k < 32) ⌝ }
-    ensures { λ r. ⌜ r ≡ parted (now (co .entry)) groups k others ⌝ }
-{
-    let mut g: usize = 0;
-    while g < groups {
-        if mask::has(co[g], k) {
-            if co[g] & others != 0 {
-                return true;
-            }
-        }
-        g += 1;
-    }
-    false
+    columns[EXCLUSIONS][k] & site.on == 0
 }
 
 // Whether a message goes between task k and one of the others.
-fn joins(k: usize, others: u32, from: u32, to: u32) -> bool
+fn joins(k: usize, others: u32, from: usize, to: usize) -> bool
     requires { ⌜ (from < 32) × (to < 32) ⌝ }
     ensures { λ r. ⌜ r ≡ joins k others from to ⌝ }
 {
-    if from as usize == k {
-        if mask::has(others, to as usize) {
+    if from == k {
+        if mask::has(others, to) {
             return true;
         }
     }
-    if to as usize == k {
-        return mask::has(others, from as usize);
+    if to == k {
+        return mask::has(others, from);
     }
     false
 }
 
 // What the messages between task k and the others amount to.
-fn between<'a>(
-    sender: &'a [u32; 64],
-    receiver: &'a [u32; 64],
-    amounts: &'a [u64; 64],
-    messages: usize,
-    k: usize,
-    others: u32,
-) -> u64
-    requires { ⌜ SmallMessages (now sender) (now receiver) (now amounts) messages ⌝ }
-    ensures { λ r. ⌜ r ≡ between (now (sender .entry)) (now (receiver .entry)) (now (amounts .entry)) messages k others ⌝ }
+fn between(messages: &Messages, count: usize, k: usize, others: u32) -> u64
+    requires { ⌜ SmallMessages (now messages) count ⌝ }
+    ensures { λ r. ⌜ r ≡ between (now (messages .entry)) count k others ⌝ }
 {
     let mut sum: u64 = 0;
     let mut j: usize = 0;
-    while j < messages {
-        if joins(k, others, sender[j], receiver[j]) {
-            sum += amounts[j];
+    while j < count {
+        let from = messages[SENDER][j] as usize;
+        let to = messages[RECEIVER][j] as usize;
+        if joins(k, others, from, to) {
+            sum += messages[AMOUNT][j];
         }
         j += 1;
     }
@@ -158,32 +137,26 @@ const REFUSED: Trial = Trial {
 
 // The open task k on processor p: the cheap tests first.
 fn attempt<'a>(
-    residence: &'a [u32; 24],
-    memory: &'a [u32; 24],
-    exclusions: &'a [u32; 24],
-    co: &'a [u32; 16],
-    sender: &'a [u32; 64],
-    receiver: &'a [u32; 64],
-    loads: &'a [u64; 24],
-    amounts: &'a [u64; 64],
+    columns: &'a Columns,
+    messages: &'a Messages,
     sizes: Sizes,
     site: Site,
     k: usize,
     p: usize,
 ) -> Trial
-    requires { ⌜ ((t : Table) × (s : State) × Lent t sizes (now residence) (now memory) (now exclusions) (now co) (now sender) (now receiver) (now loads) (now amounts) × Fits t s × (site ≡ siteOf s p))
+    requires { ⌜ ((t : Table) × (s : State) × Lent t sizes (now columns) (now messages) × Fits t s × (site ≡ siteOf s p))
         × T (has (site .left) k) × (p < sizes .processors) ⌝ }
-    ensures { λ r. ⌜ ((t : Table) (s : State) → Lent t sizes (now (residence .entry)) (now (memory .entry)) (now (exclusions .entry)) (now (co .entry)) (now (sender .entry)) (now (receiver .entry)) (now (loads .entry)) (now (amounts .entry))
+    ensures { λ r. ⌜ ((t : Table) (s : State) → Lent t sizes (now (columns .entry)) (now (messages .entry))
         → Fits t s → site ≡ siteOf s p → TrialOf t s k p (r .allowed) (r .added)) ⌝ }
 {
-    if !suits(residence, memory, exclusions, loads, site, k, p) {
+    if !suits(columns, site, k, p) {
         return REFUSED;
     }
     let others = neither(sizes.tasks, site.left, site.on);
-    if parted(co, sizes.groups, k, others) {
+    if columns[PARTNERS][k] & others != 0 {
         return REFUSED;
     }
-    let added = between(sender, receiver, amounts, sizes.messages, k, others);
+    let added = between(messages, sizes.messages, k, others);
     Trial {
         allowed: added <= site.traffic,
         added,
@@ -192,38 +165,19 @@ fn attempt<'a>(
 
 // Whether the open task k on processor p keeps the rules.
 pub fn allows<'a>(
-    residence: &'a [u32; 24],
-    memory: &'a [u32; 24],
-    exclusions: &'a [u32; 24],
-    co: &'a [u32; 16],
-    sender: &'a [u32; 64],
-    receiver: &'a [u32; 64],
-    loads: &'a [u64; 24],
-    amounts: &'a [u64; 64],
+    columns: &'a Columns,
+    messages: &'a Messages,
     sizes: Sizes,
     site: Site,
     k: usize,
     p: usize,
 ) -> bool
-    requires { ⌜ ((t : Table) × (s : State) × Lent t sizes (now residence) (now memory) (now exclusions) (now co) (now sender) (now receiver) (now loads) (now amounts) × Fits t s × (site ≡ siteOf s p))
+    requires { ⌜ ((t : Table) × (s : State) × Lent t sizes (now columns) (now messages) × Fits t s × (site ≡ siteOf s p))
         × T (has (site .left) k) × (p < sizes .processors) ⌝ }
-    ensures { λ r. ⌜ ((t : Table) (s : State) → Lent t sizes (now (residence .entry)) (now (memory .entry)) (now (exclusions .entry)) (now (co .entry)) (now (sender .entry)) (now (receiver .entry)) (now (loads .entry)) (now (amounts .entry))
+    ensures { λ r. ⌜ ((t : Table) (s : State) → Lent t sizes (now (columns .entry)) (now (messages .entry))
         → Fits t s → site ≡ siteOf s p → Says r (Keeps t (andTask (standing (s .on)) k p))) ⌝ }
 {
-    let trial = attempt(
-        residence,
-        memory,
-        exclusions,
-        co,
-        sender,
-        receiver,
-        loads,
-        amounts,
-        sizes,
-        site,
-        k,
-        p,
-    );
+    let trial = attempt(columns, messages, sizes, site, k, p);
     trial.allowed
 }
 
@@ -234,7 +188,7 @@ pub struct Stepping {
 }
 
 // The step after a trial of task k on processor p, where it takes so much memory and load.
-fn follow(s: State, k: usize, p: usize, memory: u32, load: u64, trial: Trial) -> Stepping
+fn follow(s: State, k: usize, p: usize, memory: u32, load: u32, trial: Trial) -> Stepping
     requires { ⌜ (k < 32) × (p < 8) × (T (trial .allowed) → Enough s p memory load (trial .added)) ⌝ }
     ensures { λ r. ⌜ r ≡ stepAfter s k p memory load trial ⌝ }
 {
@@ -248,7 +202,7 @@ fn follow(s: State, k: usize, p: usize, memory: u32, load: u64, trial: Trial) ->
     next.on[p] = mask::insert(s.on[p], k);
     next.left = mask::remove(s.left, k);
     next.memory[p] = s.memory[p] - wide(memory);
-    next.load[p] = s.load[p] - load;
+    next.load[p] = s.load[p] - wide(load);
     next.traffic = s.traffic - trial.added;
     Stepping {
         allowed: true,
@@ -258,22 +212,16 @@ fn follow(s: State, k: usize, p: usize, memory: u32, load: u64, trial: Trial) ->
 
 // The open task k put on processor p.
 pub fn step<'a>(
-    residence: &'a [u32; 24],
-    memory: &'a [u32; 24],
-    exclusions: &'a [u32; 24],
-    co: &'a [u32; 16],
-    sender: &'a [u32; 64],
-    receiver: &'a [u32; 64],
-    loads: &'a [u64; 24],
-    amounts: &'a [u64; 64],
+    columns: &'a Columns,
+    messages: &'a Messages,
     sizes: Sizes,
     s: State,
     k: usize,
     p: usize,
 ) -> Stepping
-    requires { ⌜ ((t : Table) × Lent t sizes (now residence) (now memory) (now exclusions) (now co) (now sender) (now receiver) (now loads) (now amounts) × Fits t s)
+    requires { ⌜ ((t : Table) × Lent t sizes (now columns) (now messages) × Fits t s)
         × T (has (s .left) k) × (p < sizes .processors) ⌝ }
-    ensures { λ r. ⌜ ((t : Table) → Lent t sizes (now (residence .entry)) (now (memory .entry)) (now (exclusions .entry)) (now (co .entry)) (now (sender .entry)) (now (receiver .entry)) (now (loads .entry)) (now (amounts .entry))
+    ensures { λ r. ⌜ ((t : Table) → Lent t sizes (now (columns .entry)) (now (messages .entry))
         → Fits t s → StepOf t s k p (r .allowed) (r .next)) ⌝ }
 {
     let site = Site {
@@ -283,21 +231,8 @@ pub fn step<'a>(
         load: s.load[p],
         traffic: s.traffic,
     };
-    let trial = attempt(
-        residence,
-        memory,
-        exclusions,
-        co,
-        sender,
-        receiver,
-        loads,
-        amounts,
-        sizes,
-        site,
-        k,
-        p,
-    );
-    follow(s, k, p, memory[k], loads[k], trial)
+    let trial = attempt(columns, messages, sizes, site, k, p);
+    follow(s, k, p, columns[MEMORY][k], columns[LOAD][k], trial)
 }
 
 // Nothing is placed yet.

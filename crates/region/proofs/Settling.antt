@@ -16,9 +16,9 @@ use Rattle.schedule.specs.Periodic.{LateSet}
 use Rattle.rules.specs.Placement.{placed, andTask, Part}
 use Rattle.rules.specs.Rules.{Keeps}
 use Rattle.rules.specs.Sets.{standing}
-use Rattle.conflict.specs.Entry.{tasksIn}
+use Rattle.timing.specs.Timing.{tasksIn}
 use Rattle.judge.specs.Judge.{PlacementOf}
-use Rattle.judge.proofs.Limits.{valid-tasks, constrained-tasks}
+use Rattle.timing.proofs.Limits.{valid-tasks, constrained-tasks}
 use Rattle.ledger.specs.Ledger.{Covered, Ledger, Grows, Clear}
 use Rattle.partial.specs.Partial.{Partial, Whole}
 use Rattle.region.specs.Region.{Within, Refuted, Met, Witness, Uncovered, Marked, Settled, Sooner}

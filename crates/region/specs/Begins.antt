@@ -5,7 +5,7 @@ use Prim.Native.Nat.{ℕ}
 use lib.ListN.{getD}
 use Rattle.mask.specs.Mask.{has}
 use Rattle.table.specs.declared.Table.{Table}
-use Rattle.conflict.specs.Entry.{tasksIn}
+use Rattle.timing.specs.Timing.{tasksIn}
 use Rattle.schedule.specs.Periodic.{LateSet}
 use Rattle.ledger.specs.Ledger.{Ledger, Clear}
 use Rattle.partial.specs.declared.State.{State}

@@ -12,7 +12,7 @@ use Rattle.schedule.specs.Periodic.{LateSet}
 use Rattle.rules.specs.Placement.{placed, Part}
 use Rattle.rules.specs.Rules.{Keeps, residenceBroken}
 use Rattle.rules.specs.Sets.{standing}
-use Rattle.conflict.specs.Entry.{tasksIn}
+use Rattle.timing.specs.Timing.{tasksIn}
 use Rattle.judge.specs.Judge.{PlacementOf}
 use Rattle.answer.specs.Answer.{maskAt}
 use Rattle.ledger.specs.Ledger.{Covered, Ledger, Grows, Clear}

@@ -1,5 +1,5 @@
 -- The search from the empty placement: what it begins with, and what it has settled in the end. Assumes nothing.
-use mathlib.Core.Path.{_≡_, refl, subst}
+use mathlib.Core.Path.{_≡_, refl, subst, _∙_}
 use mathlib.Core.Logic.{inl}
 use mathlib.Core.Bool.{Bool, true, false}
 use mathlib.Core.List.{List}
@@ -8,17 +8,15 @@ use native.Mathlib.Omega.{arith}
 use lib.Dec.{T}
 use lib.ListN.{length, getD}
 use Rattle.mask.specs.Mask.{has}
-use Rattle.mask.proofs.Laws.{has-zero, has-below}
 use Rattle.table.specs.declared.Table.{Table}
 use Rattle.table.specs.Sound.{Sound}
 use Rattle.schedule.proofs.LateSets.{late-set}
-use Rattle.schedule.specs.Arrays.{InLimits, higherOf}
+use Rattle.schedule.specs.Arrays.{InLimits}
 use Rattle.rules.specs.Sets.{standing}
-use Rattle.conflict.specs.Entry.{tasksIn}
-use Rattle.conflict.proofs.Limits.{limits-of}
-use Rattle.judge.proofs.Limits.{valid-tasks, constrained-tasks}
+use Rattle.timing.specs.Timing.{timingOf, tasksIn}
+use Rattle.timing.proofs.Limits.{limits-of, none-below, valid-tasks, constrained-tasks}
 use Rattle.ledger.proofs.Append.{ledger-start}
-use Rattle.columns.specs.Columns.{loadsOf, amountsOf, exclusionsOf}
+use Rattle.columns.specs.Columns.{columnsOf, messagesOf}
 use Rattle.partial.specs.declared.Sizes.{Sizes}
 use Rattle.partial.specs.declared.State.{State}
 use Rattle.partial.specs.Partial.{Started}
@@ -31,6 +29,7 @@ use Rattle.deciding.specs.declared.Covering.{Covering}
 use Rattle.deciding.specs.Deciding.{DecidedAs, CutAs, CoveringAs}
 use Rattle.first.specs.declared.Reached.{Reached}
 use Rattle.first.specs.First.{InTime, Placing, FirstOf}
+use Rattle.guide.specs.Guided.{Guided}
 use Rattle.run.specs.Run.{SizesOf, RanAs}
 
 module _ {t : Table} (h : Sound t) {s : State} (w : Started t s) where
@@ -83,34 +82,28 @@ module _ {t : Table} (h : Sound t) {s : State} (w : Started t s) where
       settled-region (λ q i u. u .1) (λ q i u. (everywhere q, u)) (f .settled),
     )
 
--- the columns of a table, as they are made for the search
-pub lends-table : {t : Table} → Sound t → {r : Sizes} → SizesOf t r → {higher exclusions loads amounts : List ℕ}
-    → higher ≡ higherOf (t .tasks .count) (t .tasks .priority) → exclusions ≡ exclusionsOf t → loads ≡ loadsOf t → amounts ≡ amountsOf t
-    → Lends t r (t .tasks .c) (t .tasks .t) (t .tasks .d) (t .tasks .priority) higher (t .tasks .residence) (t .tasks .memory) exclusions (t .co .mask) (t .messages .sender) (t .messages .receiver) loads amounts
-lends-table h s ranked e l a = record {
+-- the rows of a table, as they are made for the search
+pub lends-table : {t : Table} → Sound t → {r : Sizes} → SizesOf t r → {timing rows columns links : List (List ℕ)} → timing ≡ timingOf t → rows ≡ columnsOf t → links ≡ messagesOf t
+    → Guided rows columns → Lends t r timing columns links
+lends-table h s same e l g = record {
   rules = record {
     sound = h;
     tasks = s .tasks;
     processors = s .processors;
-    groups = s .groups;
     messages = s .messages;
-    same-residence = refl;
-    same-memory = refl;
-    same-exclusions = e;
-    same-co = refl;
-    same-sender = refl;
-    same-receiver = refl;
-    same-loads = l;
-    same-amounts = a;
+    same-residence = g .kept 0 (λ i. omega arith) (λ i. omega arith) (λ i. omega arith) ∙ rw e refl;
+    same-memory = g .kept 2 (λ i. omega arith) (λ i. omega arith) (λ i. omega arith) ∙ rw e refl;
+    same-loads = g .kept 1 (λ i. omega arith) (λ i. omega arith) (λ i. omega arith) ∙ rw e refl;
+    same-exclusions = g .kept 4 (λ i. omega arith) (λ i. omega arith) (λ i. omega arith) ∙ rw e refl;
+    same-partners = g .kept 5 (λ i. omega arith) (λ i. omega arith) (λ i. omega arith) ∙ rw e refl;
+    light = g .light;
+    same-sender = rw l refl;
+    same-receiver = rw l refl;
+    same-amounts = rw l refl;
   };
-  same-work = refl;
-  same-period = refl;
-  same-deadline = refl;
-  same-priority = refl;
-  ranked = ranked;
+  same-timing = same;
 }
 
--- the same columns, for the guide, with no task yet
-pub guide-limits : {t : Table} → Sound t → {r : Sizes} → SizesOf t r → {higher : List ℕ} → higher ≡ higherOf (t .tasks .count) (t .tasks .priority)
-    → InLimits (r .tasks) (t .tasks .c) (t .tasks .t) (t .tasks .d) (t .tasks .priority) higher 0
-guide-limits {t} h s e = rw (s .tasks, e) (limits-of h 0 (has-below (t .tasks .count) 0 (λ k u. absurd (rw (has-zero k) at u))))
+-- the same rows, for the guide, with no task yet
+pub guide-limits : {t : Table} → Sound t → {r : Sizes} → SizesOf t r → {timing : List (List ℕ)} → timing ≡ timingOf t → InLimits (r .tasks) timing 0
+guide-limits {t} h s e = rw (s .tasks, e) (limits-of h 0 (none-below (t .tasks .count)))

@@ -13,7 +13,6 @@ use Rattle.run.specs.declared.Ran.{Ran}
 pub record SizesOf (t : Table) (r : Sizes) : Type 0 where
   pub tasks : r .tasks ≡ t .tasks .count
   pub processors : r .processors ≡ t .processors .count
-  pub groups : r .groups ≡ t .co .count
   pub messages : r .messages ≡ t .messages .count
 
 -- the first good placement of all and every earlier one settled; or all placements settled

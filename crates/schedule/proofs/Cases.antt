@@ -76,7 +76,7 @@ pub record Case : Type 0 where
   pub responses : List ℕ
 
 abbrev pub tasks : Case → Tasks
-tasks k = tasksOf (k .n) (k .c) (k .t) (k .d) (k .p)
+tasks k = tasksOf (k .n) (k .c ∷ k .t ∷ k .d ∷ k .p ∷ [])
 
 -- 01: 1 4 4, 2 6 6, 3 12 10 by falling priority: responses 1, 3, 10; with D 9 late, and minimal, as no two of the three are late; 2 4 4 and 2 4 4: responses 2, 4;
 -- 2 4 4 above 3 6 6: late at load exactly 1; with priorities exchanged: late
@@ -158,7 +158,7 @@ pub cases-hold : AllHold cases
 cases-hold = all-hold cases computed
 
 -- by the tick run itself: the first job of the first case's third task has two of its three ticks before tick 9, and ends at 10
-pub ends : (service (run (tasksOf 3 (1 ∷ 2 ∷ 3 ∷ []) (4 ∷ 6 ∷ 12 ∷ []) (4 ∷ 6 ∷ 10 ∷ []) (30 ∷ 20 ∷ 10 ∷ [])) (has 7)) 9 2 0 ≡ 2)
-    × (service (run (tasksOf 3 (1 ∷ 2 ∷ 3 ∷ []) (4 ∷ 6 ∷ 12 ∷ []) (4 ∷ 6 ∷ 10 ∷ []) (30 ∷ 20 ∷ 10 ∷ [])) (has 7)) 10 2 0 ≡ 3)
+pub ends : (service (run (tasksOf 3 ((1 ∷ 2 ∷ 3 ∷ []) ∷ (4 ∷ 6 ∷ 12 ∷ []) ∷ (4 ∷ 6 ∷ 10 ∷ []) ∷ (30 ∷ 20 ∷ 10 ∷ []) ∷ [])) (has 7)) 9 2 0 ≡ 2)
+    × (service (run (tasksOf 3 ((1 ∷ 2 ∷ 3 ∷ []) ∷ (4 ∷ 6 ∷ 12 ∷ []) ∷ (4 ∷ 6 ∷ 10 ∷ []) ∷ (30 ∷ 20 ∷ 10 ∷ []) ∷ [])) (has 7)) 10 2 0 ≡ 3)
 unfolding service scheduled pending unfinished someBelow
 ends = (refl, refl)

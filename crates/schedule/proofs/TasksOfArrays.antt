@@ -11,11 +11,11 @@ use lib.Dec.{T, ltb, lt→ltb, ltb→lt}
 use lib.ListN.{getD}
 use Rattle.finite.specs.Finite.{only, sumTo}
 use Rattle.finite.proofs.Sum.{sum-ext}
-use Rattle.mask.specs.Mask.{has, Subset}
+use Rattle.mask.specs.Mask.{has, below, Subset}
 use Rattle.mask.proofs.Laws.{below-has, has-and, has-mask, subset-below}
 use Rattle.schedule.specs.Periodic.{Valid, Constrained, LateSet}
 use Rattle.schedule.specs.Response.{ceil, share, demand, response}
-use Rattle.schedule.specs.Arrays.{InLimits, SmallShares, higherThan, sharesOf, tasksOf}
+use Rattle.schedule.specs.Arrays.{InLimits, SmallShares, higherThan, sharesOf, tasksOf, workRow, periodRow, deadlineRow, priorityRow, higherRow}
 use Rattle.mask.proofs.Tests.{and-left, and-right}
 use Rattle.schedule.proofs.Only.{only-in, only-out}
 use Rattle.schedule.proofs.LateSets.{late-set}
@@ -27,26 +27,26 @@ unfolding sumTo
 sum-part n zero f e = rw add-zero refl
 sum-part n (suc k) f e = rw add-suc (omega (arith, sum-part n k f e, e (n + k) (omega arith)))
 
-module _ {n : ℕ} {c t d p higher : List ℕ} {set : ℕ} (a : InLimits n c t d p higher set) where
-  pub valid-of : Valid (tasksOf n c t d p)
+module _ {n : ℕ} {rows : List (List ℕ)} {set : ℕ} (a : InLimits n rows set) where
+  pub valid-of : Valid (tasksOf n rows)
   valid-of = record {
     works = a .some-work;
     some-period = λ i l. omega (arith, a .some-work i l, a .in-deadline i l, a .in-period i l);
     distinct = a .distinct;
   }
 
-  pub constrained-of : Constrained (tasksOf n c t d p)
+  pub constrained-of : Constrained (tasksOf n rows)
   constrained-of = a .in-period
 
-  pub work-bound : (i : ℕ) → i < n → getD c i 0 ≤ 1000000
+  pub work-bound : (i : ℕ) → i < n → getD (workRow rows) i 0 ≤ 1000000
   work-bound i l = omega (arith, a .in-deadline i l, a .in-period i l, a .short-period i l)
 
-  pub deadline-bound : (i : ℕ) → i < n → getD d i 0 ≤ 1000000
+  pub deadline-bound : (i : ℕ) → i < n → getD (deadlineRow rows) i 0 ≤ 1000000
   deadline-bound i l = omega (arith, a .in-period i l, a .short-period i l)
 
-  -- the same tasks with a part of the set
-  pub with-subset : (part : ℕ) → Subset part set → InLimits n c t d p higher part
-  with-subset part inside = record {
+  -- the limits do not depend on the set
+  pub with-set : (other : ℕ) → T (below n other) → InLimits n rows other
+  with-set other e = record {
     few = a .few;
     some-work = a .some-work;
     in-deadline = a .in-deadline;
@@ -54,35 +54,38 @@ module _ {n : ℕ} {c t d p higher : List ℕ} {set : ℕ} (a : InLimits n c t d
     short-period = a .short-period;
     distinct = a .distinct;
     ranked = a .ranked;
-    inside = subset-below n part set inside (a .inside);
+    inside = e;
   }
+
+  pub with-subset : (part : ℕ) → Subset part set → InLimits n rows part
+  with-subset part inside = with-set part (subset-below n part set inside (a .inside))
 
   pub task-of : {j : ℕ} → T (has set j) → j < n
   task-of {j} = below-has n set (a .inside) j
 
   -- the set is late, and is not, by its members' responses
-  pub late-if : (i : ℕ) {r : ℕ} → T (has set i) → r ≡ response (tasksOf n c t d p) (has set) i → r ≡ 0 → LateSet (tasksOf n c t d p) (has set)
-  late-if i m e z = late-set (tasksOf n c t d p) valid-of (has set) constrained-of .1 (i, task-of m, m, sym e ∙ z)
+  pub late-if : (i : ℕ) {r : ℕ} → T (has set i) → r ≡ response (tasksOf n rows) (has set) i → r ≡ 0 → LateSet (tasksOf n rows) (has set)
+  late-if i m e z = late-set (tasksOf n rows) valid-of (has set) constrained-of .1 (i, task-of m, m, sym e ∙ z)
 
-  pub not-late-if : ((k : ℕ) → T (has set k) → 0 < response (tasksOf n c t d p) (has set) k) → LateSet (tasksOf n c t d p) (has set) → ⊥
-  not-late-if h q = let e = late-set (tasksOf n c t d p) valid-of (has set) constrained-of .0 q in omega (arith, e .3, h (e .0) (e .2))
+  pub not-late-if : ((k : ℕ) → T (has set k) → 0 < response (tasksOf n rows) (has set) k) → LateSet (tasksOf n rows) (has set) → ⊥
+  not-late-if h q = let e = late-set (tasksOf n rows) valid-of (has set) constrained-of .0 q in omega (arith, e .3, h (e .0) (e .2))
 
   -- the tasks that may delay task i
-  higher-at : (i : ℕ) → i < n → getD higher i 0 ≡ higherThan n p i
+  higher-at : (i : ℕ) → i < n → getD (higherRow rows) i 0 ≡ higherThan n (priorityRow rows) i
   higher-at i l =
       ap (λ (h : List ℕ). getD h i 0) (a .ranked)
-      ∙ getD-tabulate 24 (λ k. only (ltb k n) (higherThan n p k)) i (omega (arith, a .few))
-      ∙ only-in (ltb i n) (higherThan n p i) (lt→ltb i n l)
+      ∙ getD-tabulate 24 (λ k. only (ltb k n) (higherThan n (priorityRow rows) k)) i (omega (arith, a .few))
+      ∙ only-in (ltb i n) (higherThan n (priorityRow rows) i) (lt→ltb i n l)
 
-  others-has : (i : ℕ) → i < n → (j : ℕ) → has (bitAnd set (getD higher i 0)) j ≡ (has set j && (ltb j n && ltb (getD p i 0) (getD p j 0)))
-  others-has i l j = has-and set (getD higher i 0) j ∙ ap (λ (b : Bool). has set j && b) (ap (λ (m : ℕ). has m j) (higher-at i l) ∙ has-mask n (λ k. ltb (getD p i 0) (getD p k 0)) j)
+  others-has : (i : ℕ) → i < n → (j : ℕ) → has (bitAnd set (getD (higherRow rows) i 0)) j ≡ (has set j && (ltb j n && ltb (getD (priorityRow rows) i 0) (getD (priorityRow rows) j 0)))
+  others-has i l j = has-and set (getD (higherRow rows) i 0) j ∙ ap (λ (b : Bool). has set j && b) (ap (λ (m : ℕ). has m j) (higher-at i l) ∙ has-mask n (λ k. ltb (getD (priorityRow rows) i 0) (getD (priorityRow rows) k 0)) j)
 
-  others-below : (i : ℕ) → i < n → (j : ℕ) → T (has (bitAnd set (getD higher i 0)) j) → j < n
+  others-below : (i : ℕ) → i < n → (j : ℕ) → T (has (bitAnd set (getD (higherRow rows) i 0)) j) → j < n
   others-below i l j u =
-      let over = ltb (getD p i 0) (getD p j 0) in
+      let over = ltb (getD (priorityRow rows) i 0) (getD (priorityRow rows) j 0) in
       ltb→lt j n (and-left (ltb j n) over (and-right (has set j) (ltb j n && over) (rw (others-has i l j) at u)))
 
-  pub small-shares : (i : ℕ) → i < n → SmallShares c t (bitAnd set (getD higher i 0))
+  pub small-shares : (i : ℕ) → i < n → SmallShares rows (bitAnd set (getD (higherRow rows) i 0))
   small-shares i l = record {
     few = λ j u. omega (arith, others-below i l j u, a .few);
     some-period = λ j u. valid-of .some-period j (others-below i l j u);
@@ -90,18 +93,18 @@ module _ {n : ℕ} {c t d p higher : List ℕ} {set : ℕ} (a : InLimits n c t d
     little-work = λ j u. work-bound j (others-below i l j u);
   }
 
-  pub demand-of : (i x : ℕ) {own rest : ℕ} → i < n → own ≡ getD c i 0 → rest ≡ sharesOf c t (bitAnd set (getD higher i 0)) x
-      → own + rest ≡ demand (tasksOf n c t d p) (has set) i x
+  pub demand-of : (i x : ℕ) {own rest : ℕ} → i < n → own ≡ getD (workRow rows) i 0 → rest ≡ sharesOf rows (bitAnd set (getD (higherRow rows) i 0)) x
+      → own + rest ≡ demand (tasksOf n rows) (has set) i x
   unfolding demand
   demand-of i x l own rest =
       let k = le-dest (a .few) in
-      ap₂ _+_ own (rest ∙ rw (k .1) at (sum-part n (k .0) term later) ∙ sum-ext n term (share (tasksOf n c t d p) (has set) i x) here)
+      ap₂ _+_ own (rest ∙ rw (k .1) at (sum-part n (k .0) term later) ∙ sum-ext n term (share (tasksOf n rows) (has set) i x) here)
     where
       term : ℕ → ℕ
-      term j = only (has (bitAnd set (getD higher i 0)) j) (ceil x (getD t j 0) * getD c j 0)
+      term j = only (has (bitAnd set (getD (higherRow rows) i 0)) j) (ceil x (getD (periodRow rows) j 0) * getD (workRow rows) j 0)
 
       later : (j : ℕ) → n ≤ j → term j ≡ 0
-      later j h = only-out (has (bitAnd set (getD higher i 0)) j) (ceil x (getD t j 0) * getD c j 0) (λ u. omega (arith, others-below i l j u))
+      later j h = only-out (has (bitAnd set (getD (higherRow rows) i 0)) j) (ceil x (getD (periodRow rows) j 0) * getD (workRow rows) j 0) (λ u. omega (arith, others-below i l j u))
 
-      here : (j : ℕ) → j < n → term j ≡ share (tasksOf n c t d p) (has set) i x j
+      here : (j : ℕ) → j < n → term j ≡ share (tasksOf n rows) (has set) i x j
       here j h = rw (others-has i l j, lt-ltb j n h) refl

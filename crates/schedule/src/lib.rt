@@ -1,10 +1,23 @@
-// The response of a task, and whether a set of tasks is late. The tasks are lent as an array for each number, and a set is a mask.
+// The response of a task, and whether a set of tasks is late. The tasks are lent as five rows of numbers, a place for each task, and a set is a mask.
 ghost use mathlib.Core.Path.{_≡_};
 ghost use Prim.Native.Nat.{_*_, _<_, _≤_};
 ghost use Rattle.mask.specs.Mask.{has};
 ghost use Rattle.schedule.specs.Periodic.{LateSet};
 ghost use Rattle.schedule.specs.Response.{ceil, demand, response};
 ghost use Rattle.schedule.specs.Arrays.{tasksOf, higherThan, higherOf, sharesOf, SmallShares, InLimits, Says};
+
+// The rows: C, T, D, the priority, and the tasks of larger priority.
+pub type Timing = [[u32; 24]; 5];
+
+pub const WORK: usize = 0;
+
+pub const PERIOD: usize = 1;
+
+pub const DEADLINE: usize = 2;
+
+pub const PRIORITY: usize = 3;
+
+pub const HIGHER: usize = 4;
 
 // The tasks of larger priority than task i.
 fn higher_than(priority: &[u32; 24], n: usize, i: usize) -> u32
@@ -61,56 +74,37 @@ fn share(x: u32, t: u32, c: u32) -> u64
 }
 
 // The shares of the tasks in others. Only these are visited.
-fn interference<'a>(c: &'a [u32; 24], t: &'a [u32; 24], others: u32, x: u32) -> u64
-    requires { ⌜ SmallShares (now c) (now t) others × (x ≤ 1000000) ⌝ }
-    ensures { λ r. ⌜ (r ≡ sharesOf (now (c .entry)) (now (t .entry)) others x) × (r ≤ 24 * 1000000000000) ⌝ }
+fn interference(timing: &Timing, others: u32, x: u32) -> u64
+    requires { ⌜ SmallShares (now timing) others × (x ≤ 1000000) ⌝ }
+    ensures { λ r. ⌜ (r ≡ sharesOf (now (timing .entry)) others x) × (r ≤ 24 * 1000000000000) ⌝ }
 {
     let mut sum: u64 = 0;
     let mut left = others;
     while left != 0 {
         let j = mask::lowest(left);
-        sum += share(x, t[j], c[j]);
+        sum += share(x, timing[PERIOD][j], timing[WORK][j]);
         left = mask::remove(left, j);
     }
     sum
 }
 
-// The demand at x on task i in the set. The priorities enter through higher; priority and d are there for the statement.
-pub fn demand_at<'a>(
-    c: &'a [u32; 24],
-    t: &'a [u32; 24],
-    d: &'a [u32; 24],
-    priority: &'a [u32; 24],
-    higher: &'a [u32; 24],
-    n: usize,
-    set: u32,
-    i: usize,
-    x: u32,
-) -> u64
-    requires { ⌜ InLimits n (now c) (now t) (now d) (now priority) (now higher) set × (i < n) × (x ≤ 1000000) ⌝ }
-    ensures { λ r. ⌜ r ≡ demand (tasksOf n (now (c .entry)) (now (t .entry)) (now (d .entry)) (now (priority .entry))) (has set) i x ⌝ }
+// The demand at x on task i in the set. The priorities enter through the row of larger ones.
+pub fn demand_at(timing: &Timing, n: usize, set: u32, i: usize, x: u32) -> u64
+    requires { ⌜ InLimits n (now timing) set × (i < n) × (x ≤ 1000000) ⌝ }
+    ensures { λ r. ⌜ r ≡ demand (tasksOf n (now (timing .entry))) (has set) i x ⌝ }
 {
-    wide(c[i]) + interference(c, t, set & higher[i], x)
+    wide(timing[WORK][i]) + interference(timing, set & timing[HIGHER][i], x)
 }
 
 // The response of task i in the set: 0 where it is above the deadline or there is none.
-pub fn response<'a>(
-    c: &'a [u32; 24],
-    t: &'a [u32; 24],
-    d: &'a [u32; 24],
-    priority: &'a [u32; 24],
-    higher: &'a [u32; 24],
-    n: usize,
-    set: u32,
-    i: usize,
-) -> u32
-    requires { ⌜ InLimits n (now c) (now t) (now d) (now priority) (now higher) set × (i < n) ⌝ }
-    ensures { λ r. ⌜ r ≡ response (tasksOf n (now (c .entry)) (now (t .entry)) (now (d .entry)) (now (priority .entry))) (has set) i ⌝ }
+pub fn response(timing: &Timing, n: usize, set: u32, i: usize) -> u32
+    requires { ⌜ InLimits n (now timing) set × (i < n) ⌝ }
+    ensures { λ r. ⌜ r ≡ response (tasksOf n (now (timing .entry))) (has set) i ⌝ }
 {
-    let limit = wide(d[i]);
-    let mut x = c[i];
+    let limit = wide(timing[DEADLINE][i]);
+    let mut x = timing[WORK][i];
     let end = loop {
-        let y = demand_at(c, t, d, priority, higher, n, set, i, x);
+        let y = demand_at(timing, n, set, i, x);
         if y == wide(x) {
             break y;
         }
@@ -123,22 +117,14 @@ pub fn response<'a>(
 }
 
 // Whether the set has a late job in the tick run.
-pub fn is_late<'a>(
-    c: &'a [u32; 24],
-    t: &'a [u32; 24],
-    d: &'a [u32; 24],
-    priority: &'a [u32; 24],
-    higher: &'a [u32; 24],
-    n: usize,
-    set: u32,
-) -> bool
-    requires { ⌜ InLimits n (now c) (now t) (now d) (now priority) (now higher) set ⌝ }
-    ensures { λ r. ⌜ Says r (LateSet (tasksOf n (now (c .entry)) (now (t .entry)) (now (d .entry)) (now (priority .entry))) (has set)) ⌝ }
+pub fn is_late(timing: &Timing, n: usize, set: u32) -> bool
+    requires { ⌜ InLimits n (now timing) set ⌝ }
+    ensures { λ r. ⌜ Says r (LateSet (tasksOf n (now (timing .entry))) (has set)) ⌝ }
 {
     let mut left = set;
     while left != 0 {
         let i = mask::lowest(left);
-        if response(c, t, d, priority, higher, n, set, i) == 0 {
+        if response(timing, n, set, i) == 0 {
             return true;
         }
         left = mask::remove(left, i);

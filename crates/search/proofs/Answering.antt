@@ -16,7 +16,7 @@ use Rattle.rules.specs.Placement.{placed}
 use Rattle.rules.specs.Rules.{Keeps}
 use Rattle.rules.specs.Sets.{standing}
 use Rattle.conflict.specs.Conflict.{Minimal}
-use Rattle.conflict.specs.Entry.{tasksIn}
+use Rattle.timing.specs.Timing.{tasksIn}
 use Rattle.judge.specs.Judge.{PlacementOf}
 use Rattle.judge.specs.Good.{Good}
 use Rattle.answer.specs.Answer.{maskAt, foundHead, noneHead}

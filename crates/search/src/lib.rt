@@ -29,7 +29,6 @@ fn put_head(table: Table, found: bool, on: [u32; 8], buffer: &mut [u8])
         let sizes = Sizes {
             tasks: tasks.count,
             processors: processors.count,
-            groups: 0,
             messages: 0,
         };
         let placement = partial::placement_of(sizes, on);

@@ -12,8 +12,8 @@ use Rattle.table.specs.declared.Table.{Table}
 use Rattle.table.specs.Sound.{Sound}
 use Rattle.rules.specs.Placement.{andTask}
 use Rattle.rules.specs.Sets.{standing}
-use Rattle.conflict.specs.Entry.{tasksIn}
-use Rattle.judge.proofs.Limits.{valid-tasks, constrained-tasks}
+use Rattle.timing.specs.Timing.{tasksIn}
+use Rattle.timing.proofs.Limits.{valid-tasks, constrained-tasks}
 use Rattle.ledger.specs.declared.Tested.{Tested}
 use Rattle.ledger.specs.Ledger.{Bad, Clear, Verdict, Noted}
 use Rattle.ledger.proofs.Growth.{grows-refl, grows-map}

@@ -13,7 +13,7 @@ use Rattle.mask.proofs.Laws.{remove-lt}
 use Rattle.table.specs.declared.Table.{Table}
 use Rattle.rules.specs.Placement.{andTask}
 use Rattle.rules.specs.Sets.{standing}
-use Rattle.conflict.specs.Entry.{tasksIn}
+use Rattle.timing.specs.Timing.{tasksIn}
 use Rattle.ledger.specs.Ledger.{Ledger, Grows, Bad}
 use Rattle.ledger.proofs.Growth.{grows-refl, grows-trans, grows-map}
 use Rattle.ledger.proofs.Verdicts.{bad-grows, clear-grows}

@@ -10,12 +10,18 @@ ghost use Rattle.table.specs.declared.Table.{Table};
 ghost use Rattle.rules.specs.Sets.{standing};
 ghost use Rattle.region.specs.Lends.{Lends};
 ghost use Rattle.region.specs.Begins.{Begins};
-ghost use Rattle.conflict.specs.Entry.{tasksIn};
+ghost use Rattle.timing.specs.Timing.{tasksIn};
 ghost use Rattle.known.specs.Known.{Knows};
 ghost use Rattle.memo.specs.Memo.{Learnt};
 ghost use Rattle.seek.specs.Seek.{EnteredAs, ExploredAs, SoughtIn};
+use columns::Columns;
+use columns::Messages;
+use known::Known;
+use ledger::Mode;
+use memo::Memo;
 use partial::Sizes;
 use partial::State;
+use schedule::Timing;
 
 // A task on a processor: whether to go on from there, with which state, and how many conflicts are listed then.
 pub struct Entered {
@@ -71,47 +77,23 @@ fn turned(first: usize, i: usize, m: usize) -> usize
 
 // The open task k on processor p: tested by the rules, then for lateness.
 pub fn enter<'a>(
-    work: &'a [u32; 24],
-    period: &'a [u32; 24],
-    deadline: &'a [u32; 24],
-    priority: &'a [u32; 24],
-    higher: &'a [u32; 24],
-    residence: &'a [u32; 24],
-    memory: &'a [u32; 24],
-    exclusions: &'a [u32; 24],
-    co: &'a [u32; 16],
-    sender: &'a [u32; 64],
-    receiver: &'a [u32; 64],
-    loads: &'a [u64; 24],
-    amounts: &'a [u64; 64],
+    timing: &'a Timing,
+    columns: &'a Columns,
+    messages: &'a Messages,
     sizes: Sizes,
     s: State,
     k: usize,
     p: usize,
-    listing: bool,
+    mode: Mode,
     list: &mut [u8],
-    places: usize,
     count: usize,
-    known: &mut [u32; 16384],
+    known: &mut Known,
 ) -> Entered
-    requires { ⌜ ((t : Table) × Lends t sizes (now work) (now period) (now deadline) (now priority) (now higher) (now residence) (now memory) (now exclusions) (now co) (now sender) (now receiver) (now loads) (now amounts) × Begins t listing places s (now list) count × Knows (tasksIn t) (now known)) × T (has (s .left) k) × (p < sizes .processors) ⌝ }
-    ensures { λ r. ⌜ ((t : Table) → Lends t sizes (now (work .entry)) (now (period .entry)) (now (deadline .entry)) (now (priority .entry)) (now (higher .entry)) (now (residence .entry)) (now (memory .entry)) (now (exclusions .entry)) (now (co .entry)) (now (sender .entry)) (now (receiver .entry)) (now (loads .entry)) (now (amounts .entry))
-        → Begins t listing places s (now (list .entry)) count → Knows (tasksIn t) (now (known .entry)) → EnteredAs t listing places s k p (now (list .entry)) count (now (list .exit)) r × Knows (tasksIn t) (now (known .exit))) ⌝ }
+    requires { ⌜ ((t : Table) × Lends t sizes (now timing) (now columns) (now messages) × Begins t (mode .listing) (mode .places) s (now list) count × Knows (tasksIn t) (now known)) × T (has (s .left) k) × (p < sizes .processors) ⌝ }
+    ensures { λ r. ⌜ ((t : Table) → Lends t sizes (now (timing .entry)) (now (columns .entry)) (now (messages .entry))
+        → Begins t (mode .listing) (mode .places) s (now (list .entry)) count → Knows (tasksIn t) (now (known .entry)) → EnteredAs t (mode .listing) (mode .places) s k p (now (list .entry)) count (now (list .exit)) r × Knows (tasksIn t) (now (known .exit))) ⌝ }
 {
-    let step = partial::step(
-        residence,
-        memory,
-        exclusions,
-        co,
-        sender,
-        receiver,
-        loads,
-        amounts,
-        sizes,
-        s,
-        k,
-        p,
-    );
+    let step = partial::step(columns, messages, sizes, s, k, p);
     let next = step.next;
     if !step.allowed {
         return Entered {
@@ -120,20 +102,7 @@ pub fn enter<'a>(
             count,
         };
     }
-    let tested = ledger::test(
-        work,
-        period,
-        deadline,
-        priority,
-        higher,
-        sizes.tasks,
-        next.on[p],
-        listing,
-        list,
-        places,
-        count,
-        known,
-    );
+    let tested = ledger::test(timing, sizes.tasks, next.on[p], mode, list, count, known);
     Entered {
         passes: !tested.bad,
         next,
@@ -143,39 +112,26 @@ pub fn enter<'a>(
 
 // The region below the open task k on processor p. It is passed over where a lower processor can stand in for p.
 fn explore<'a>(
-    work: &'a [u32; 24],
-    period: &'a [u32; 24],
-    deadline: &'a [u32; 24],
-    priority: &'a [u32; 24],
-    higher: &'a [u32; 24],
-    residence: &'a [u32; 24],
-    memory: &'a [u32; 24],
-    exclusions: &'a [u32; 24],
-    co: &'a [u32; 16],
-    sender: &'a [u32; 64],
-    receiver: &'a [u32; 64],
-    loads: &'a [u64; 24],
-    amounts: &'a [u64; 64],
-    guide: &'a [u32; 120],
+    timing: &'a Timing,
+    columns: &'a Columns,
+    messages: &'a Messages,
     sizes: Sizes,
     s: State,
     k: usize,
     p: usize,
-    listing: bool,
+    mode: Mode,
     list: &mut [u8],
-    places: usize,
     count: usize,
-    limited: bool,
     notes: &mut [u32],
-    known: &mut [u32; 16384],
-    memo: &mut [u64; 12288],
+    known: &mut Known,
+    memo: &mut Memo,
 ) -> Sought
-    requires { ⌜ ((t : Table) × Lends t sizes (now work) (now period) (now deadline) (now priority) (now higher) (now residence) (now memory) (now exclusions) (now co) (now sender) (now receiver) (now loads) (now amounts) × Begins t listing places s (now list) count × Learnt t (now guide) (now known) (now memo)) × T (has (s .left) k) × (p < sizes .processors) × (64 ≤ length (now notes)) ⌝ }
-    ensures { λ r. ⌜ ((t : Table) → Lends t sizes (now (work .entry)) (now (period .entry)) (now (deadline .entry)) (now (priority .entry)) (now (higher .entry)) (now (residence .entry)) (now (memory .entry)) (now (exclusions .entry)) (now (co .entry)) (now (sender .entry)) (now (receiver .entry)) (now (loads .entry)) (now (amounts .entry))
-        → Begins t listing places s (now (list .entry)) count → Learnt t (now (guide .entry)) (now (known .entry)) (now (memo .entry)) → ExploredAs t listing limited places s k p (now (list .entry)) count (now (list .exit)) r × Learnt t (now (guide .entry)) (now (known .exit)) (now (memo .exit))) ⌝ }
+    requires { ⌜ ((t : Table) × Lends t sizes (now timing) (now columns) (now messages) × Begins t (mode .listing) (mode .places) s (now list) count × Learnt t (now columns) (now known) (now memo)) × T (has (s .left) k) × (p < sizes .processors) × (64 ≤ length (now notes)) ⌝ }
+    ensures { λ r. ⌜ ((t : Table) → Lends t sizes (now (timing .entry)) (now (columns .entry)) (now (messages .entry))
+        → Begins t (mode .listing) (mode .places) s (now (list .entry)) count → Learnt t (now (columns .entry)) (now (known .entry)) (now (memo .entry)) → ExploredAs t (mode .listing) (mode .limited) (mode .places) s k p (now (list .entry)) count (now (list .exit)) r × Learnt t (now (columns .entry)) (now (known .exit)) (now (memo .exit))) ⌝ }
 {
     let on = s.on;
-    if twin::twin(residence, memory, loads, s, p) != p {
+    if twin::twin(columns, s, p) != p {
         return Sought {
             found: false,
             none: true,
@@ -184,26 +140,15 @@ fn explore<'a>(
         };
     }
     let entered = enter(
-        work,
-        period,
-        deadline,
-        priority,
-        higher,
-        residence,
-        memory,
-        exclusions,
-        co,
-        sender,
-        receiver,
-        loads,
-        amounts,
+        timing,
+        columns,
+        messages,
         sizes,
         s,
         k,
         p,
-        listing,
+        mode,
         list,
-        places,
         count,
         known,
     );
@@ -217,27 +162,14 @@ fn explore<'a>(
     }
     let next = entered.next;
     seek(
-        work,
-        period,
-        deadline,
-        priority,
-        higher,
-        residence,
-        memory,
-        exclusions,
-        co,
-        sender,
-        receiver,
-        loads,
-        amounts,
-        guide,
+        timing,
+        columns,
+        messages,
         sizes,
         next,
-        listing,
+        mode,
         list,
-        places,
         entered.count,
-        limited,
         notes,
         known,
         memo,
@@ -246,37 +178,24 @@ fn explore<'a>(
 
 // The region below a state: an open task by `pick`, on each processor in turn. One that no processor can take is blamed.
 pub fn seek<'a>(
-    work: &'a [u32; 24],
-    period: &'a [u32; 24],
-    deadline: &'a [u32; 24],
-    priority: &'a [u32; 24],
-    higher: &'a [u32; 24],
-    residence: &'a [u32; 24],
-    memory: &'a [u32; 24],
-    exclusions: &'a [u32; 24],
-    co: &'a [u32; 16],
-    sender: &'a [u32; 64],
-    receiver: &'a [u32; 64],
-    loads: &'a [u64; 24],
-    amounts: &'a [u64; 64],
-    guide: &'a [u32; 120],
+    timing: &'a Timing,
+    columns: &'a Columns,
+    messages: &'a Messages,
     sizes: Sizes,
     s: State,
-    listing: bool,
+    mode: Mode,
     list: &mut [u8],
-    places: usize,
     count: usize,
-    limited: bool,
     notes: &mut [u32],
-    known: &mut [u32; 16384],
-    memo: &mut [u64; 12288],
+    known: &mut Known,
+    memo: &mut Memo,
 ) -> Sought
-    requires { ⌜ ((t : Table) × Lends t sizes (now work) (now period) (now deadline) (now priority) (now higher) (now residence) (now memory) (now exclusions) (now co) (now sender) (now receiver) (now loads) (now amounts) × Begins t listing places s (now list) count × Learnt t (now guide) (now known) (now memo)) × (64 ≤ length (now notes)) ⌝ }
-    ensures { λ r. ⌜ ((t : Table) → Lends t sizes (now (work .entry)) (now (period .entry)) (now (deadline .entry)) (now (priority .entry)) (now (higher .entry)) (now (residence .entry)) (now (memory .entry)) (now (exclusions .entry)) (now (co .entry)) (now (sender .entry)) (now (receiver .entry)) (now (loads .entry)) (now (amounts .entry))
-        → Begins t listing places s (now (list .entry)) count → Learnt t (now (guide .entry)) (now (known .entry)) (now (memo .entry)) → SoughtIn t listing limited places (standing (s .on)) (now (list .entry)) count (now (list .exit)) r × Learnt t (now (guide .entry)) (now (known .exit)) (now (memo .exit))) ⌝ }
+    requires { ⌜ ((t : Table) × Lends t sizes (now timing) (now columns) (now messages) × Begins t (mode .listing) (mode .places) s (now list) count × Learnt t (now columns) (now known) (now memo)) × (64 ≤ length (now notes)) ⌝ }
+    ensures { λ r. ⌜ ((t : Table) → Lends t sizes (now (timing .entry)) (now (columns .entry)) (now (messages .entry))
+        → Begins t (mode .listing) (mode .places) s (now (list .entry)) count → Learnt t (now (columns .entry)) (now (known .entry)) (now (memo .entry)) → SoughtIn t (mode .listing) (mode .limited) (mode .places) (standing (s .on)) (now (list .entry)) count (now (list .exit)) r × Learnt t (now (columns .entry)) (now (known .exit)) (now (memo .exit))) ⌝ }
 {
     let on = s.on;
-    if gives_up(limited, notes) {
+    if gives_up(mode.limited, notes) {
         return Sought {
             found: false,
             none: false,
@@ -293,25 +212,13 @@ pub fn seek<'a>(
         };
     }
     let bounded = bound::bound(
-        work,
-        period,
-        deadline,
-        priority,
-        higher,
-        residence,
-        memory,
-        exclusions,
-        co,
-        sender,
-        receiver,
-        loads,
-        amounts,
-        guide,
+        timing,
+        columns,
+        messages,
         sizes,
         s,
-        listing,
+        mode,
         list,
-        places,
         count,
         notes,
         known,
@@ -326,25 +233,13 @@ pub fn seek<'a>(
         };
     }
     let k = branching::pick(
-        work,
-        period,
-        deadline,
-        priority,
-        higher,
-        residence,
-        memory,
-        exclusions,
-        co,
-        sender,
-        receiver,
-        loads,
-        amounts,
-        guide,
+        timing,
+        columns,
+        messages,
         sizes,
         s,
-        listing,
+        mode,
         list,
-        places,
         bounded.count,
         notes,
         known,
@@ -355,29 +250,16 @@ pub fn seek<'a>(
     while i < sizes.processors {
         let p = turned(first, i, sizes.processors);
         let sought = explore(
-            work,
-            period,
-            deadline,
-            priority,
-            higher,
-            residence,
-            memory,
-            exclusions,
-            co,
-            sender,
-            receiver,
-            loads,
-            amounts,
-            guide,
+            timing,
+            columns,
+            messages,
             sizes,
             s,
             k,
             p,
-            listing,
+            mode,
             list,
-            places,
             at,
-            limited,
             notes,
             known,
             memo,

@@ -13,6 +13,7 @@ use Rattle.mask.proofs.Laws.{has-below}
 use Rattle.table.specs.declared.Table.{Table}
 use Rattle.schedule.specs.Arrays.{Says}
 use Rattle.rules.specs.Sets.{memoryOf, loadOf}
+use Rattle.columns.specs.Columns.{residenceRow, memoryRow, loadRow}
 use Rattle.columns.proofs.Laws.{loads-get}
 use Rattle.partial.specs.declared.State.{State}
 use Rattle.partial.specs.declared.Sizes.{Sizes}
@@ -22,8 +23,8 @@ use Rattle.twin.specs.Twin.{SameResidence, Alike, Interchangeable}
 use Rattle.twin.specs.Asks.{Asks, total, SaysAlike}
 
 -- a caller that holds the columns of the rules
-pub asks : {t : Table} {sizes : Sizes} {residence memory exclusions co sender receiver loads amounts : List ℕ} {s : State} {p : ℕ}
-    → Lent t sizes residence memory exclusions co sender receiver loads amounts → Fits t s → p < sizes .processors → Asks t residence memory loads s p
+pub asks : {t : Table} {sizes : Sizes} {columns links : List (List ℕ)} {s : State} {p : ℕ}
+    → Lent t sizes columns links → Fits t s → p < sizes .processors → Asks t columns s p
 asks lent fits l = record {
   sound = lent .sound;
   same-residence = lent .same-residence;
@@ -45,7 +46,7 @@ says-iff : (b : Bool) (A B : Type 0) → Says b A → (A → B) → (B → A) �
 says-iff true A B x f g = f x
 says-iff false A B x f g = λ y. x (g y)
 
-module _ {t : Table} {residence memory loads : List ℕ} {s : State} {p : ℕ} (w : Asks t residence memory loads s p) where
+module _ {t : Table} {columns : List (List ℕ)} {s : State} {p : ℕ} (w : Asks t columns s p) where
   open-below : T (below (t .tasks .count) (s .left))
   open-below = has-below (t .tasks .count) (s .left) (λ k u. w .fits .open-task k u .0)
 
@@ -53,26 +54,26 @@ module _ {t : Table} {residence memory loads : List ℕ} {s : State} {p : ℕ} (
   open-low = has-below 24 (s .left) (λ k u. omega (arith, w .fits .open-task k u .0, w .sound .tasks .most))
 
   -- the sums of the lent columns are those of the table
-  total-memory : total (t .tasks .count) memory (s .left) ≡ memoryOf (t .tasks) (s .left)
+  total-memory : total (t .tasks .count) (memoryRow columns) (s .left) ≡ memoryOf (t .tasks) (s .left)
   unfolding memoryOf
   total-memory = rw (w .same-memory) refl
 
-  total-load : total (t .tasks .count) loads (s .left) ≡ loadOf (t .tasks) (t .hyperperiod) (s .left)
+  total-load : total (t .tasks .count) (loadRow columns) (s .left) ≡ loadOf (t .tasks) (t .hyperperiod) (s .left)
   unfolding loadOf
   total-load =
-      sum-ext (t .tasks .count) (λ k. only (has (s .left) k) (getD loads k 0)) (λ k. only (has (s .left) k) (work t k))
+      sum-ext (t .tasks .count) (λ k. only (has (s .left) k) (getD (loadRow columns) k 0)) (λ k. only (has (s .left) k) (work t k))
       (λ k l. rw (w .same-loads, loads-get t (w .sound) k l) refl)
 
   -- the code's answer on the memory of p and q, and on their load
   module _ (q : ℕ) {r : Bool} where
-    module _ (x : SaysAlike r memory (s .left) (getD (s .memory) q 0) (getD (s .memory) p 0)) where
+    module _ (x : SaysAlike r (memoryRow columns) (s .left) (getD (s .memory) q 0) (getD (s .memory) p 0)) where
       pub memory-yes : r ≡ true → Alike (memoryOf (t .tasks) (s .left)) (getD (s .memory) q 0) (getD (s .memory) p 0)
       memory-yes e = rw total-memory at (says-yes r _ (x (t .tasks .count) open-below) e)
 
       pub memory-no : r ≡ false → Interchangeable t s q p → ⊥
       memory-no e i = says-no r _ (x (t .tasks .count) open-below) e (rw total-memory (i .memory))
 
-    module _ (x : SaysAlike r loads (s .left) (getD (s .load) q 0) (getD (s .load) p 0)) where
+    module _ (x : SaysAlike r (loadRow columns) (s .left) (getD (s .load) q 0) (getD (s .load) p 0)) where
       pub load-yes : r ≡ true → Alike (loadOf (t .tasks) (t .hyperperiod) (s .left)) (getD (s .load) q 0) (getD (s .load) p 0)
       load-yes e = rw total-load at (says-yes r _ (x (t .tasks .count) open-below) e)
 
@@ -83,7 +84,7 @@ module _ {t : Table} {residence memory loads : List ℕ} {s : State} {p : ℕ} (
   pub residence-says : {q : ℕ} → q < p → getD (s .on) q 0 ≡ 0 → getD (s .on) p 0 ≡ 0
       → Alike (memoryOf (t .tasks) (s .left)) (getD (s .memory) q 0) (getD (s .memory) p 0)
       → Alike (loadOf (t .tasks) (t .hyperperiod) (s .left)) (getD (s .load) q 0) (getD (s .load) p 0)
-      → (r : Bool) → Says r (SameResidence residence (s .left) q p) → Says r (Interchangeable t s q p)
+      → (r : Bool) → Says r (SameResidence (residenceRow columns) (s .left) q p) → Says r (Interchangeable t s q p)
   residence-says {q} l empty-q empty-p memory load r x =
       says-iff r (SameResidence (t .tasks .residence) (s .left) q p) (Interchangeable t s q p) (rw (w .same-residence) at x)
       (λ same. record {

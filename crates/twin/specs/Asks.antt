@@ -10,17 +10,17 @@ use Rattle.mask.specs.Mask.{has, below}
 use Rattle.table.specs.declared.Table.{Table}
 use Rattle.table.specs.Sound.{Sound}
 use Rattle.schedule.specs.Arrays.{Says}
-use Rattle.columns.specs.Columns.{loadsOf}
+use Rattle.columns.specs.Columns.{loadsOf, residenceRow, memoryRow, loadRow}
 use Rattle.partial.specs.declared.State.{State}
 use Rattle.partial.specs.Partial.{Fits}
 use Rattle.twin.specs.Twin.{Alike}
 
 -- a state and a processor of the table whose columns are lent
-pub record Asks (t : Table) (residence memory loads : List ℕ) (s : State) (p : ℕ) : Type 0 where
+pub record Asks (t : Table) (columns : List (List ℕ)) (s : State) (p : ℕ) : Type 0 where
   pub sound : Sound t
-  pub same-residence : residence ≡ t .tasks .residence
-  pub same-memory : memory ≡ t .tasks .memory
-  pub same-loads : loads ≡ loadsOf t
+  pub same-residence : residenceRow columns ≡ t .tasks .residence
+  pub same-memory : memoryRow columns ≡ t .tasks .memory
+  pub same-loads : loadRow columns ≡ loadsOf t
   pub fits : Fits t s
   pub known : p < t .processors .count
 

@@ -8,6 +8,10 @@ ghost use Rattle.table.specs.declared.Table.{Table};
 ghost use Rattle.schedule.specs.Arrays.{Says};
 ghost use Rattle.twin.specs.Twin.{SameResidence, Interchangeable, LowestTwin};
 ghost use Rattle.twin.specs.Asks.{Asks, total, SaysAlike};
+use columns::Columns;
+use columns::LOAD;
+use columns::MEMORY;
+use columns::RESIDENCE;
 use partial::State;
 
 // x as a wider number.
@@ -27,35 +31,16 @@ fn lesser(a: u64, b: u64) -> u64
     b
 }
 
-// Whether the memory of all tasks in the set fits the room; left at the first that does not.
-fn memory_fits(memory: &[u32; 24], set: u32, room: u64) -> bool
+// Whether what all tasks in the set need, by the row, fits the room; left at the first that does not.
+fn ample(row: &[u32; 24], set: u32, room: u64) -> bool
     requires { ⌜ T (below 24 set) ⌝ }
-    ensures { λ r. ⌜ ((n : ℕ) → T (below n set) → r ≡ leb (total n (now (memory .entry)) set) room) ⌝ }
+    ensures { λ r. ⌜ ((n : ℕ) → T (below n set) → r ≡ leb (total n (now (row .entry)) set) room) ⌝ }
 {
     let mut free = room;
     let mut rest = set;
     while rest != 0 {
         let k = mask::lowest(rest);
-        let x = wide(memory[k]);
-        if free < x {
-            return false;
-        }
-        free -= x;
-        rest = mask::remove(rest, k);
-    }
-    true
-}
-
-// The same of the load.
-fn load_fits(loads: &[u64; 24], set: u32, room: u64) -> bool
-    requires { ⌜ T (below 24 set) ⌝ }
-    ensures { λ r. ⌜ ((n : ℕ) → T (below n set) → r ≡ leb (total n (now (loads .entry)) set) room) ⌝ }
-{
-    let mut free = room;
-    let mut rest = set;
-    while rest != 0 {
-        let k = mask::lowest(rest);
-        let x = loads[k];
+        let x = wide(row[k]);
         if free < x {
             return false;
         }
@@ -81,69 +66,45 @@ fn same_residence(residence: &[u32; 24], set: u32, p: usize, q: usize) -> bool
     true
 }
 
-// Whether two rooms for memory are alike to the tasks of the set: the sum is needed only where they differ.
-fn memory_alike(memory: &[u32; 24], set: u32, a: u64, b: u64) -> bool
+// Whether two rooms are alike to the tasks of the set: the sum is needed only where they differ.
+fn alike(row: &[u32; 24], set: u32, a: u64, b: u64) -> bool
     requires { ⌜ T (below 24 set) ⌝ }
-    ensures { λ r. ⌜ SaysAlike r (now (memory .entry)) set a b ⌝ }
+    ensures { λ r. ⌜ SaysAlike r (now (row .entry)) set a b ⌝ }
 {
     if a == b {
         return true;
     }
-    memory_fits(memory, set, lesser(a, b))
-}
-
-// The same of rooms for load.
-fn load_alike(loads: &[u64; 24], set: u32, a: u64, b: u64) -> bool
-    requires { ⌜ T (below 24 set) ⌝ }
-    ensures { λ r. ⌜ SaysAlike r (now (loads .entry)) set a b ⌝ }
-{
-    if a == b {
-        return true;
-    }
-    load_fits(loads, set, lesser(a, b))
+    ample(row, set, lesser(a, b))
 }
 
 // Whether processor q below the empty processor p is interchangeable with it: the cheap tests first.
-fn interchangeable<'a>(
-    residence: &'a [u32; 24],
-    memory: &'a [u32; 24],
-    loads: &'a [u64; 24],
-    s: State,
-    q: usize,
-    p: usize,
-) -> bool
-    requires { ⌜ ((t : Table) × Asks t (now residence) (now memory) (now loads) s p) × (getD (s .on) p 0 ≡ 0) × (q < p) ⌝ }
-    ensures { λ r. ⌜ ((t : Table) → Asks t (now (residence .entry)) (now (memory .entry)) (now (loads .entry)) s p → Says r (Interchangeable t s q p)) ⌝ }
+fn interchangeable(columns: &Columns, s: State, q: usize, p: usize) -> bool
+    requires { ⌜ ((t : Table) × Asks t (now columns) s p) × (getD (s .on) p 0 ≡ 0) × (q < p) ⌝ }
+    ensures { λ r. ⌜ ((t : Table) → Asks t (now (columns .entry)) s p → Says r (Interchangeable t s q p)) ⌝ }
 {
     if s.on[q] != 0 {
         return false;
     }
-    if !memory_alike(memory, s.left, s.memory[q], s.memory[p]) {
+    if !alike(&columns[MEMORY], s.left, s.memory[q], s.memory[p]) {
         return false;
     }
-    if !load_alike(loads, s.left, s.load[q], s.load[p]) {
+    if !alike(&columns[LOAD], s.left, s.load[q], s.load[p]) {
         return false;
     }
-    same_residence(residence, s.left, q, p)
+    same_residence(&columns[RESIDENCE], s.left, q, p)
 }
 
 // The lowest processor below p that is interchangeable with it; p where there is none.
-pub fn twin<'a>(
-    residence: &'a [u32; 24],
-    memory: &'a [u32; 24],
-    loads: &'a [u64; 24],
-    s: State,
-    p: usize,
-) -> usize
-    requires { ⌜ ((t : Table) × Asks t (now residence) (now memory) (now loads) s p) ⌝ }
-    ensures { λ r. ⌜ ((t : Table) → Asks t (now (residence .entry)) (now (memory .entry)) (now (loads .entry)) s p → LowestTwin t s p r) ⌝ }
+pub fn twin(columns: &Columns, s: State, p: usize) -> usize
+    requires { ⌜ ((t : Table) × Asks t (now columns) s p) ⌝ }
+    ensures { λ r. ⌜ ((t : Table) → Asks t (now (columns .entry)) s p → LowestTwin t s p r) ⌝ }
 {
     if s.on[p] != 0 {
         return p;
     }
     let mut q: usize = 0;
     while q < p {
-        if interchangeable(residence, memory, loads, s, q, p) {
+        if interchangeable(columns, s, q, p) {
             return q;
         }
         q += 1;

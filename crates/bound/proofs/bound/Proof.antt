@@ -22,7 +22,7 @@ bound-spec =
     let x = j .before .before .before in
     λ t l b k.
     let a = x .try-all .ensures t l (b .fits) (b .ledger) k in
-    (bounded-first (x .before .before .before .before .before .before .before .before .before .before .before .args .listing) (x .try-all .result) (a .0) (⊎-elim (λ w. inl (w .1)) (λ w. inr (w .0 .left)) (j .if2 .came)) (c .before .before .before .before .if3 .taken), a .1))  -- returns-2
+    (bounded-first (x .before .before .before .before .before .before .before .before .before .before .before .args .mode .listing) (x .try-all .result) (a .0) (⊎-elim (λ w. inl (w .1)) (λ w. inr (w .0 .left)) (j .if2 .came)) (c .before .before .before .before .if3 .taken), a .1))  -- returns-2
     (λ c κs.
     let x = c .before .before .before .before .before .before .before in
     let z = x .before .before .before .before .before .before .before .before .before .before .before .pre .0 in

@@ -6,16 +6,17 @@ use native.Mathlib.Omega.{arith}
 use borrow.Author.Needs.{needs}
 use lib.ListN.{getD}
 use Rattle.rules.proofs.SumLoop.{Summing, summing-start, summing-in, summing-out, summing-end}
+use Rattle.columns.specs.Columns.{senderRow, receiverRow, amountRow}
 use Rattle.bound.specs.Weighing.{mustCross, crossingOf}
 use Rattle.bound.proofs.crossing.Statement.{statement}
 use Rattle.bound.proofs.crossing.Tie as tie
 
 abbrev Inv-loop : tie.InvT-loop
-Inv-loop exclusions sender receiver amounts messages s sets m sum₀ j₀ sum j =
-    Summing messages (λ i. mustCross exclusions s sets m (getD sender i 0) (getD receiver i 0)) (λ i. getD amounts i 0) 1000000000000000 j sum
+Inv-loop exclusions messages count s sets m sum₀ j₀ sum j =
+    Summing count (λ i. mustCross exclusions s sets m (getD (senderRow messages) i 0) (getD (receiverRow messages) i 0)) (λ i. getD (amountRow messages) i 0) 1000000000000000 j sum
 
 abbrev μ-loop : tie.MeasureT-loop
-μ-loop exclusions sender receiver amounts messages s sets m sum₀ j₀ sum j = messages - j
+μ-loop exclusions messages count s sets m sum₀ j₀ sum j = count - j
 
 pub crossing-spec : {M : Type 1} → statement M
 unfolding crossingOf
@@ -26,14 +27,15 @@ crossing-spec =
     μ-loop
     (λ c. summing-start)  -- loop-holds
     (λ c. search needs)  -- mul-from
-    (λ c. search needs)  -- element-copy-out-from
-    (λ c. let l = c .before in omega (arith, l .before .before .pre .1 .from-task _ (l .loop-test .taken)))  -- cast-from
+    (λ c. search needs)  -- index-1-from
+    (λ c. search needs)  -- index-2-from
     (λ c. search needs)  -- mul-to
-    (λ c. search needs)  -- element-copy-out-to
-    (λ c. let l = c .before .before in omega (arith, l .before .before .pre .1 .to-task _ (l .loop-test .taken)))  -- cast-to
+    (λ c. search needs)  -- index-1-to
+    (λ c. search needs)  -- index-2-to
     (λ c κs. let l = c .before .before in let p = l .before .before .pre in (p .0, p .1 .from-task _ (l .loop-test .taken), p .1 .to-task _ (l .loop-test .taken)))  -- must-cross-requires
     (λ c. search needs)  -- mul-sum
-    (λ c. search needs)  -- element-copy-out-sum
+    (λ c. search needs)  -- index-1-sum
+    (λ c. search needs)  -- index-2-sum
     (λ c.
     let l = c .before .before .before .before .before in
     let p = l .before .before .pre .1 in

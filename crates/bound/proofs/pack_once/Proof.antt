@@ -1,7 +1,8 @@
 -- The bound that is kept, or what the packing finds, which is kept then.
+use mathlib.Core.Path.{refl}
 use borrow.Author.Needs.{needs}
 use Rattle.bound.proofs.Weighted.{lower-is}
-use Rattle.bound.proofs.Tightening.{row-as, tight-recalled, tight-capped}
+use Rattle.bound.proofs.Tightening.{tight-recalled, tight-capped}
 use Rattle.bound.proofs.pack_once.Statement.{statement}
 use Rattle.bound.proofs.pack_once.Tie as tie
 
@@ -25,7 +26,7 @@ pack-once-spec =
     let y = c .before .before in
     let z = y .before .before .before .before .before .before in
     λ t l f w e o k. (
-      tight-recalled o (rw (← l .rules .processors) (z .pre .2)) (z .pre .4) (row-as l (z .args .guide .now) (z .args .row) (z .pre .3)) w (y .recall .ensures (c .before .if1 .taken) t _ (k .keeps)) (lower-is _ _ (c .lower .ensures)),
+      tight-recalled o (rw (← l .rules .processors) (z .pre .2)) (z .pre .3) refl w (y .recall .ensures (c .before .if1 .taken) t _ (k .keeps)) (lower-is _ _ (c .lower .ensures)),
       k,
     ))  -- returns
     (λ c κs.
@@ -38,4 +39,4 @@ pack-once-spec =
     let z = x .before .before .before .before .before .before .before .before .before .before in
     λ t l f w e o k.
     let a = x .pack .ensures t l f w e o (k .knows) in
-    (a .0, record { knows = a .1; keeps = c .keep .ensures t _ (k .keeps) (tight-capped (x .pack .result) (z .pre .4) (row-as l (z .args .guide .now) (z .args .row) (z .pre .3)) (a .0)) })))  -- returns-2
+    (a .0, record { knows = a .1; keeps = c .keep .ensures t _ (k .keeps) (tight-capped (x .pack .result) (z .pre .3) refl (a .0)) })))  -- returns-2

@@ -28,6 +28,6 @@ tighten-spec =
     ((z .0 .0, z .0 .1, z .0 .2, z .0 .3, z .0 .4, z .0 .5, z .0 .6 .knows), z .1, z .2))  -- pack-requires
     (λ c. search needs)  -- same-length
     (λ c t l f w e o m. let a = c .before .before .pack .ensures t l f w e o (m .knows) in (a .0, record { knows = a .1; keeps = m .keeps }))  -- returns-2
-    (λ c κs. let z = c .before .before .before .before .before .before .before .pre in (z .0, z .1, z .2, z .3, c .before .before .before .if2 .left))  -- pack-once-requires
+    (λ c κs. let z = c .before .before .before .before .before .before .before .pre in (z .0, z .1, z .2, c .before .before .before .if2 .left))  -- pack-once-requires
     (λ c. search needs)  -- same-length-2
     (λ c t l f w e o m. c .before .before .pack-once .ensures t l f w e o m))  -- returns-3

@@ -31,15 +31,19 @@ weight-of-spec =
     μ-loop
     (λ c. (visit-start (search needs), sum-start))  -- loop-holds
     (λ c κs. search needs)  -- lowest-requires
-    (λ c. omega (arith, low c))  -- mul-sum
-    (λ c. low c)  -- element-copy-out-sum
-    (λ c. let i = c .before .before .before in omega (arith, sum-fits (i .loop .inv .1) _ (member (c .before)) (i .before .pre .0) (i .before .pre .1)))  -- add-sum
-    (λ c κs. omega (arith, low (c .before)))  -- remove-requires
-    (λ c. let l = c .before .before in visit-less (l .before .before .loop .inv .0) (search needs) (l .lowest .ensures) (c .remove .ensures))  -- loop-less
+    (λ c. omega (arith, low c))  -- mul-wide
+    (λ c. low c)  -- element-copy-out-wide
+    (λ c κs. search needs)  -- wide-requires
     (λ c.
     let l = c .before .before in
+    let i = l .before .before in
+    omega (arith, c .wide .ensures .0, sum-fits (i .loop .inv .1) _ (member l) (i .before .pre .0) (i .before .pre .1)))  -- add-sum
+    (λ c κs. omega (arith, low (c .before .before)))  -- remove-requires
+    (λ c. let l = c .before .before .before in visit-less (l .before .before .loop .inv .0) (search needs) (l .lowest .ensures) (c .remove .ensures))  -- loop-less
+    (λ c.
+    let l = c .before .before .before in
     let i = l .before .before .loop .inv in
-    (visit-next (i .0) (search needs) (l .lowest .ensures) (c .remove .ensures) tt, rw (c .remove .ensures) (sum-next (i .1) _ (member l))))  -- loop-again
+    (visit-next (i .0) (search needs) (l .lowest .ensures) (c .remove .ensures) tt, rw (c .remove .ensures, c .before .wide .ensures .0) (sum-next (i .1) _ (member l))))  -- loop-again
     (λ c.
     let z = c .before .before .pre in
     let e = sum-end (c .before .loop .inv .1) (search needs) in

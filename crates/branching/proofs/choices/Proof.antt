@@ -12,11 +12,11 @@ use Rattle.branching.proofs.choices.Statement.{statement}
 use Rattle.branching.proofs.choices.Tie as tie
 
 abbrev Inv-loop : tie.InvT-loop
-Inv-loop work period deadline priority higher residence memory exclusions co sender receiver loads amounts sizes k full list count known₀ s found₀ p₀ known found p =
-    (p ≤ sizes .processors) × (found ≤ p) × Knows (tasksOf (sizes .tasks) work period deadline priority) known
+Inv-loop timing columns messages sizes k full list count known₀ s found₀ p₀ known found p =
+    (p ≤ sizes .processors) × (found ≤ p) × Knows (tasksOf (sizes .tasks) timing) known
 
 abbrev μ-loop : tie.MeasureT-loop
-μ-loop work period deadline priority higher residence memory exclusions co sender receiver loads amounts sizes k full list count known₀ s found₀ p₀ known found p =
+μ-loop timing columns messages sizes k full list count known₀ s found₀ p₀ known found p =
     sizes .processors - p
 
 pub choices-spec : {M : Type 1} → statement M
@@ -26,12 +26,12 @@ choices-spec =
     Inv-loop
     μ-loop
     (λ c. let z = c .before .pre in (search needs, search needs, rw (lent-tasks (z .0 .1)) (z .0 .3)))  -- loop-holds
-    (λ c. search needs)  -- mul-t27
-    (λ c. search needs)  -- element-copy-out-t30
-    (λ c. search needs)  -- mul-t32
-    (λ c. search needs)  -- element-copy-out-t35
-    (λ c. search needs)  -- mul-t36
-    (λ c. search needs)  -- element-copy-out-t39
+    (λ c. search needs)  -- mul-t17
+    (λ c. search needs)  -- element-copy-out-t20
+    (λ c. search needs)  -- mul-t22
+    (λ c. search needs)  -- element-copy-out-t25
+    (λ c. search needs)  -- mul-t26
+    (λ c. search needs)  -- element-copy-out-t29
     (λ c κs. let z = c .before .before .before .before .before .before .before .pre in ((z .0 .0, _, z .0 .1 .rules, z .0 .2, refl), z .1, search needs))  -- allows-requires
     (λ c κs. let z = c .before .before .before .before .before .before .before .before .before .pre in omega (arith, open-low (z .0 .1) (z .0 .2) _ (z .1)))  -- insert-requires
     (λ c κs.

@@ -17,11 +17,11 @@ use Rattle.branching.proofs.pick.Statement.{statement}
 use Rattle.branching.proofs.pick.Tie as tie
 
 abbrev Inv-loop : tie.InvT-loop
-Inv-loop work period deadline priority higher residence memory exclusions co sender receiver loads amounts guide sizes s listing list places count notes₀ known₀ full best₀ least₀ rest₀ notes known best least rest =
-    Visit 32 (s .left) rest (λ k. Unit {0}) × T (has (s .left) best) × (length notes ≡ length notes₀) × Knows (tasksOf (sizes .tasks) work period deadline priority) known
+Inv-loop timing columns messages sizes s list count notes₀ known₀ full best₀ least₀ rest₀ notes known best least rest =
+    Visit 32 (s .left) rest (λ k. Unit {0}) × T (has (s .left) best) × (length notes ≡ length notes₀) × Knows (tasksOf (sizes .tasks) timing) known
 
 abbrev μ-loop : tie.MeasureT-loop
-μ-loop work period deadline priority higher residence memory exclusions co sender receiver loads amounts guide sizes s listing list places count notes₀ known₀ full best₀ least₀ rest₀ notes known best least rest =
+μ-loop timing columns messages sizes s list count notes₀ known₀ full best₀ least₀ rest₀ notes known best least rest =
     rest
 
 -- the task that is looked at
@@ -33,7 +33,7 @@ low c = let z = c .before .before .before .before .before .before .before .pre i
 
 -- the set of open tasks is a number of 32 bits
 wide-left : (c : tie.After-lowest Inv-loop μ-loop) → c .before .before .before .before .args .s .left < 2 ^ 32
-wide-left c = search (needs, c .before .before .before .before .good .1 .1 .1 .1 .1 .1 .1 .1 .1 .1 .1 .1 .1 .1 .1 .0)
+wide-left c = search (needs, c .before .before .before .before .good .1 .1 .1 .1 .0)
 
 pub pick-spec : {M : Type 1} → statement M
 pick-spec =
@@ -60,9 +60,9 @@ pick-spec =
     let n = c .before .before .before .before .before in
     let l = n .before .before in
     (member l, λ t lent fits knows. n .choices .ensures .1 t lent fits (rw (← lent-tasks lent) (l .before .before .loop .inv .3))))  -- returns
-    (λ c. record { fits = omega (arith, low (c .before .before .before)) })  -- add-score
     (λ c. record { fits = omega (arith, low (c .before .before .before)) })  -- mul-score
-    (λ c. omega (arith, low (c .before .before .before)))  -- element-copy-out-score
+    (λ c. search needs)  -- index-1-score
+    (λ c. omega (arith, low (c .before .before .before)))  -- index-2-score
     (λ c κs.
     let n = c .before .before .before in
     let l = n .before .before in

@@ -3,7 +3,7 @@ use mathlib.Core.Path.{sym, _∙_}
 use borrow.Author.Needs.{needs}
 use borrow.Author.Tests.{lt-ltb}
 use Rattle.verdict.proofs.Passed.{group-known}
-use Rattle.conflict.proofs.Limits.{limits-of}
+use Rattle.timing.proofs.Limits.{limits-of}
 use Rattle.conflict.proofs.check_table.Statement.{statement}
 use Rattle.conflict.proofs.check_table.Tie as tie
 
@@ -13,6 +13,11 @@ check-table-spec =
     (tie.spec
     (λ c κs. search needs)  -- bad-group-requires
     (λ c. record { value = simp (sym (c .before .bad-group .ensures) ∙ c .if1 .taken); right = tt })  -- returns
-    (λ c κs. search needs)  -- higher-requires
-    (λ c κs. let e = c .before .before .before .before .before .before .before .before .before .before .before in rw (c .before .before .before .before .before .higher .ensures) (limits-of (e .before .before .before .pre) _ (rw (lt-ltb _ _ (group-known _ _ (sym (e .before .bad-group .ensures) ∙ e .if1 .left) .0)) tt)))  -- classify-requires
-    (λ c. let e = c .before .before .before .before .before .before .before .before .before .before .before .before in record { value = simp (sym (e .before .bad-group .ensures) ∙ e .if1 .left, c .classify .ensures .value); right = c .classify .ensures .right }))  -- returns-2
+    (λ c κs. search needs)  -- timing-of-requires
+    (λ c κs.
+    let e = c .before .before in
+    rw (c .before .timing-of .ensures) (limits-of (e .before .before .before .pre) _ (rw (lt-ltb _ _ (group-known _ _ (sym (e .before .bad-group .ensures) ∙ e .if1 .left) .0)) tt)))  -- classify-requires
+    (λ c.
+    let e = c .before .before .before in
+    let t = c .before .before .timing-of .ensures in
+    record { value = simp (sym (e .before .bad-group .ensures) ∙ e .if1 .left, rw t at (c .classify .ensures .value)); right = rw t at (c .classify .ensures .right) }))  -- returns-2

@@ -18,10 +18,10 @@ use Rattle.conflict.proofs.classify.Statement.{statement}
 use Rattle.conflict.proofs.classify.Tie as tie
 
 abbrev Inv-loop : tie.InvT-loop
-Inv-loop c t d priority higher n set untried₀ untried = Visit 32 set untried (Needed (tasksOf n c t d priority) set)
+Inv-loop timing n set untried₀ untried = Visit 32 set untried (Needed (tasksOf n timing) set)
 
 abbrev μ-loop : tie.MeasureT-loop
-μ-loop c t d priority higher n set untried₀ untried = untried
+μ-loop timing n set untried₀ untried = untried
 
 member : (c : tie.After-lowest Inv-loop μ-loop) → T (has (c .before .before .before .before .before .args .set) (c .lowest .result))
 member c = visit-member (c .before .before .loop .inv) (search needs) (c .lowest .ensures)
@@ -30,7 +30,7 @@ below-32 : (c : tie.After-lowest Inv-loop μ-loop) → c .lowest .result < 32
 below-32 c = let p = c .before .before .before .before .before .pre in omega (arith, p .few, task-of p (member c))
 
 -- the set is late
-late : (c : tie.Else1 Inv-loop μ-loop) → let z = c .before .before .args in LateSet (tasksOf (z .n) (z .c .now) (z .t .now) (z .d .now) (z .priority .now)) (has (z .set))
+late : (c : tie.Else1 Inv-loop μ-loop) → let z = c .before .before .args in LateSet (tasksOf (z .n) (z .timing .now)) (has (z .set))
 late c = let b = c .before .is-late in late-yes (b .result) (b .ensures) (not-false (b .result) (c .if1 .left))
 
 pub classify-spec : {M : Type 1} → statement M

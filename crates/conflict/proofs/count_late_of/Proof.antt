@@ -7,17 +7,17 @@ use lib.ListN.{length, getD}
 use Rattle.finite.specs.Finite.{sumTo}
 use Rattle.schedule.specs.Arrays.{tasksOf}
 use Rattle.conflict.specs.Count.{lateAsNumber}
-use Rattle.conflict.proofs.Limits.{limits-of}
-use Rattle.conflict.proofs.Counting.{none-below, count-more}
+use Rattle.timing.proofs.Limits.{none-below, limits-of}
+use Rattle.conflict.proofs.Counting.{count-more}
 use Rattle.conflict.proofs.count_late_of.Statement.{statement}
 use Rattle.conflict.proofs.count_late_of.Tie as tie
 
 abbrev Inv-loop : tie.InvT-loop
-Inv-loop sets n c t d priority higher count₀ j₀ count j =
-    (j ≤ length sets) × (count ≡ sumTo j (λ k. lateAsNumber (tasksOf n c t d priority) (getD sets k 0))) × (count ≤ j)
+Inv-loop sets n timing count₀ j₀ count j =
+    (j ≤ length sets) × (count ≡ sumTo j (λ k. lateAsNumber (tasksOf n timing) (getD sets k 0))) × (count ≤ j)
 
 abbrev μ-loop : tie.MeasureT-loop
-μ-loop sets n c t d priority higher count₀ j₀ count j = length sets - j
+μ-loop sets n timing count₀ j₀ count j = length sets - j
 
 pub count-late-of-spec : {M : Type 1} → statement M
 unfolding sumTo
@@ -26,16 +26,22 @@ count-late-of-spec =
     (tie.spec
     Inv-loop
     μ-loop
-    (λ c κs. c .before .before .before .before .before .before .before .pre .tasks .most)  -- higher-requires
+    (λ c κs. search needs)  -- timing-of-requires
     (λ c. (omega arith, refl, omega arith))  -- loop-holds
     (λ c. search needs)  -- mul-late-as-number
     (λ c. search needs)  -- shared-slice-read-late-as-number
-    (λ c κs. let h = c .before .before .before .before .before .before .before .before in rw (h .higher .ensures) (let s = h .before .before .before .before .before .before .before .before in limits-of (s .pre) 0 (none-below (s .args .table .tasks .count))))  -- late-as-number-requires
-    (λ c. let l = c .before .before .before .before .before .before .before .before in omega (arith, l .loop .inv .2, c .before .before .before .before .before .before .before .loop-test .taken, c .late-as-number .ensures .1))  -- add-count
+    (λ c κs.
+    let h = c .before .before .before .before in
+    let s = h .before .before .before in
+    rw (h .timing-of .ensures) (limits-of (s .pre) 0 (none-below (s .args .table .tasks .count))))  -- late-as-number-requires
+    (λ c. let l = c .before .before .before .before in omega (arith, l .loop .inv .2, c .before .before .before .loop-test .taken, c .late-as-number .ensures .1))  -- add-count
     (λ c. search needs)  -- add-j
     (λ c. search needs)  -- loop-less
-    (λ c. let l = c .before .before .before .before .before .before .before .before in
-    (omega (arith, c .before .before .before .before .before .before .before .loop-test .taken), count-more _ (l .loop .j) (l .loop .inv .1) (c .late-as-number .ensures .0), omega (arith, l .loop .inv .2, c .late-as-number .ensures .1)))  -- loop-again
-    (λ c. let l = c .before in
-    let e : l .loop .j ≡ length (l .before .before .before .before .before .before .before .before .before .args .sets .now) = omega (arith, l .loop .inv .0, c .loop-test .left) in
-    rw (← e) (l .loop .inv .1)))  -- returns
+    (λ c.
+    let l = c .before .before .before .before in
+    (omega (arith, c .before .before .before .loop-test .taken), count-more _ (l .loop .j) (l .loop .inv .1) (c .late-as-number .ensures .0), omega (arith, l .loop .inv .2, c .late-as-number .ensures .1)))  -- loop-again
+    (λ c.
+    let l = c .before in
+    let h = l .before in
+    let e : l .loop .j ≡ length (h .before .before .before .args .sets .now) = omega (arith, l .loop .inv .0, c .loop-test .left) in
+    rw (← e) (rw (h .timing-of .ensures) at (l .loop .inv .1))))  -- returns

@@ -16,10 +16,10 @@ use Rattle.conflict.proofs.extract.Statement.{statement}
 use Rattle.conflict.proofs.extract.Tie as tie
 
 abbrev Inv-loop : tie.InvT-loop
-Inv-loop c t d priority higher n set kept₀ left₀ kept left = Dropping (tasksOf n c t d priority) set kept left
+Inv-loop timing n set kept₀ left₀ kept left = Dropping (tasksOf n timing) set kept left
 
 abbrev μ-loop : tie.MeasureT-loop
-μ-loop c t d priority higher n set kept₀ left₀ kept left = left
+μ-loop timing n set kept₀ left₀ kept left = left
 
 member : (c : tie.After-lowest Inv-loop μ-loop) → T (has (c .before .before .before .args .set) (c .lowest .result))
 member c = visit-member (c .before .before .loop .inv .tried) (search needs) (c .lowest .ensures)

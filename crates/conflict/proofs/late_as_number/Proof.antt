@@ -2,7 +2,8 @@
 use mathlib.Core.Path.{sym, _∙_}
 use native.Mathlib.Omega.{arith}
 use borrow.Author.Needs.{needs}
-use Rattle.conflict.proofs.Counting.{with-set, late-is}
+use Rattle.schedule.proofs.TasksOfArrays.{with-set}
+use Rattle.conflict.proofs.Counting.{late-is}
 use Rattle.conflict.proofs.late_as_number.Statement.{statement}
 use Rattle.conflict.proofs.late_as_number.Tie as tie
 

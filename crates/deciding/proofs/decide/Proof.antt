@@ -15,12 +15,12 @@ use Rattle.deciding.proofs.decide.Statement.{statement}
 use Rattle.deciding.proofs.decide.Tie as tie
 
 abbrev Inv-loop : tie.InvT-loop
-Inv-loop work period deadline priority higher residence memory exclusions co sender receiver loads amounts guide sizes s notes₀ known₀ memo₀ fuel₀ notes known memo fuel =
+Inv-loop timing columns messages sizes s notes₀ known₀ memo₀ fuel₀ notes known memo fuel =
     (300 ≤ fuel) × (length notes ≡ length notes₀)
-    × ((t : Table) → Lends t sizes work period deadline priority higher residence memory exclusions co sender receiver loads amounts → Ready t s → Learnt t guide known₀ memo₀ → Learnt t guide known memo)
+    × ((t : Table) → Lends t sizes timing columns messages → Ready t s → Learnt t columns known₀ memo₀ → Learnt t columns known memo)
 
 abbrev μ-loop : tie.MeasureT-loop
-μ-loop work period deadline priority higher residence memory exclusions co sender receiver loads amounts guide sizes s notes₀ known₀ memo₀ fuel₀ notes known memo fuel = 87000 - fuel
+μ-loop timing columns messages sizes s notes₀ known₀ memo₀ fuel₀ notes known memo fuel = 87000 - fuel
 
 pub decide-spec : {M : Type 1} → statement M
 decide-spec =
@@ -34,7 +34,7 @@ decide-spec =
     let i = c .before .before .before .before in
     let a = i .before .before .pre in
     ((a .0 .0, a .0 .1, a .0 .2, i .loop .inv .2 (a .0 .0) (a .0 .1) (a .0 .2) (a .0 .3)), omega (arith, a .1, i .loop .inv .1, length-set (i .loop .notes) 27 (i .loop .fuel))))  -- attempt-requires
-    (λ c. let i = c .before .before .before .before .before .before .before .before .before in c .before .before .before .before .attempt .kept .1 .1 .1 .1 .1 .1 .1 .1 .1 .1 .1 .1 .1 .1 .1 .1 .1 .0 ∙ length-set (i .loop .notes) 27 (i .loop .fuel) ∙ i .loop .inv .1)  -- same-length
+    (λ c. let i = c .before .before .before .before .before .before .before .before .before in c .before .before .before .before .attempt .kept .1 .1 .1 .1 .1 .1 .0 ∙ length-set (i .loop .notes) 27 (i .loop .fuel) ∙ i .loop .inv .1)  -- same-length
     (λ c t l w k.
     let x = c .before .before .before .before in
     let y = x .attempt .ensures t l w (x .before .before .before .before .before .loop .inv .2 t l w k) in
@@ -44,12 +44,12 @@ decide-spec =
     (λ c.
     let x = c .before .before .before .before in
     let i = x .before .before .before .before .before in
-    (omega (arith, i .loop .inv .0), x .attempt .kept .1 .1 .1 .1 .1 .1 .1 .1 .1 .1 .1 .1 .1 .1 .1 .1 .1 .0 ∙ length-set (i .loop .notes) 27 (i .loop .fuel) ∙ i .loop .inv .1, λ t l w k. x .attempt .ensures t l w (i .loop .inv .2 t l w k) .1))  -- loop-again
+    (omega (arith, i .loop .inv .0), x .attempt .kept .1 .1 .1 .1 .1 .1 .0 ∙ length-set (i .loop .notes) 27 (i .loop .fuel) ∙ i .loop .inv .1, λ t l w k. x .attempt .ensures t l w (i .loop .inv .2 t l w k) .1))  -- loop-again
     (λ c κs.
     let i = c .before .before .before .before in
     let a = i .before .before .pre in
     ((a .0 .0, a .0 .1, a .0 .2, i .loop .inv .2 (a .0 .0) (a .0 .1) (a .0 .2) (a .0 .3)), omega (arith, a .1, i .loop .inv .1)))  -- attempt-requires-2
-    (λ c. c .before .before .before .attempt2 .kept .1 .1 .1 .1 .1 .1 .1 .1 .1 .1 .1 .1 .1 .1 .1 .1 .1 .0 ∙ c .before .before .before .before .before .before .before .before .loop .inv .1)  -- same-length-2
+    (λ c. c .before .before .before .attempt2 .kept .1 .1 .1 .1 .1 .1 .0 ∙ c .before .before .before .before .before .before .before .before .loop .inv .1)  -- same-length-2
     (λ c t l w k.
     let x = c .before .before .before in
     let y = x .attempt2 .ensures t l w (x .before .before .before .before .before .loop .inv .2 t l w k) in

@@ -20,7 +20,7 @@ use Rattle.first.proofs.+first.{statement}
 use Rattle.first.proofs.+first.Tie.{close}
 
 abbrev μ-first : Measures 5 first-kinds.ps ℕ
-μ-first κs a = a .1 .1 .1 .1 .1 .1 .1 .1 .1 .1 .1 .1 .1 .1 .0 .tasks - a .1 .1 .1 .1 .1 .1 .1 .1 .1 .1 .1 .1 .1 .1 .1 .1 .0
+μ-first κs a = a .1 .1 .1 .0 .tasks - a .1 .1 .1 .1 .1 .0
 
 abbrev first-at : ℕ → In 5 first-kinds.ps
 first-at t = and 5 first-kinds.ps (is 5 first-kinds.ps μ-first t) first.Pre
@@ -29,13 +29,13 @@ abbrev first-below : ℕ → In 5 first-kinds.ps
 first-below t = and 5 first-kinds.ps (falls 5 first-kinds.ps _<_ μ-first t) first.Pre
 
 abbrev first-Inv-loop : first-lts.InvT-loop
-first-Inv-loop work period deadline priority higher residence memory exclusions co sender receiver loads amounts guide sizes s k witness list₀ places count cut notes₀ known₀ memo₀ on at₀ marked₀ p₀ list notes known memo at marked p =
+first-Inv-loop timing columns messages sizes s k witness list₀ places count cut notes₀ known₀ memo₀ on at₀ marked₀ p₀ list notes known memo at marked p =
     (p ≤ sizes .processors) × (length list ≡ length list₀) × (length notes ≡ length notes₀)
-    × ((t : Table) → Lends t sizes work period deadline priority higher residence memory exclusions co sender receiver loads amounts → Placing t places s k witness list₀ count → Learnt t guide known₀ memo₀
-    → Passing t places s k witness list₀ count cut p list at marked × Learnt t guide known memo)
+    × ((t : Table) → Lends t sizes timing columns messages → Placing t places s k witness list₀ count → Learnt t columns known₀ memo₀
+    → Passing t places s k witness list₀ count cut p list at marked × Learnt t columns known memo)
 
 abbrev first-μ-loop : first-lts.MeasureT-loop
-first-μ-loop work period deadline priority higher residence memory exclusions co sender receiver loads amounts guide sizes s k witness list₀ places count cut notes₀ known₀ memo₀ on at₀ marked₀ p₀ list notes known memo at marked p =
+first-μ-loop timing columns messages sizes s k witness list₀ places count cut notes₀ known₀ memo₀ on at₀ marked₀ p₀ list notes known memo at marked p =
     sizes .processors - p
 
 pub +first-spec : {M : Type 1} → statement M
@@ -77,9 +77,9 @@ pub +first-spec : {M : Type 1} → statement M
     let below : i .before .before .before .before .before .before .args .k < u .tasks .count = omega (arith, w .upto, l .rules .tasks, i .before .if1 .left) in
     let good = taken-good w (v .0) _ (x .try-processor .result) (y .0) e in
     let step = step-taken (l .rules .sound) w (i .loop .p) good (c .before .before .before .before .before .before .step .result .allowed) (c .before .before .before .before .before .before .step .ensures u (l .rules) (w .fits)) in
-    (omega (arith, a .0, below, l .rules .tasks), ((u, l, placing-next (l .rules .sound) w below (taken-ledger w (v .0) _ (x .try-processor .result) (y .0) e) good step, y .1), omega (arith, a .1 .1, i .loop .inv .2, x .try-processor .kept .1 .1 .1 .1 .1 .1 .1 .1 .1 .1 .1 .1 .1 .1 .1 .1 .1 .1 .1 .1 .1 .1 .1 .0))))  -- first-requires
-    (λ c. c .before .before .before .before .first .kept .1 .1 .1 .1 .1 .1 .1 .1 .1 .1 .1 .1 .1 .1 .1 .1 .1 .1 .0 ∙ c .before .before .before .before .before .before .before .before .before .before .before .before .before .before .before .before .before .try-processor .kept .1 .1 .1 .1 .1 .1 .1 .1 .1 .1 .1 .1 .1 .1 .1 .1 .1 .1 .1 .0 ∙ c .before .before .before .before .before .before .before .before .before .before .before .before .before .before .before .before .before .before .before .before .before .before .before .before .loop .inv .1)  -- same-length
-    (λ c. c .before .before .before .before .first .kept .1 .1 .1 .1 .1 .1 .1 .1 .1 .1 .1 .1 .1 .1 .1 .1 .1 .1 .1 .1 .1 .1 .0 ∙ c .before .before .before .before .before .before .before .before .before .before .before .before .before .before .before .before .before .try-processor .kept .1 .1 .1 .1 .1 .1 .1 .1 .1 .1 .1 .1 .1 .1 .1 .1 .1 .1 .1 .1 .1 .1 .1 .0 ∙ c .before .before .before .before .before .before .before .before .before .before .before .before .before .before .before .before .before .before .before .before .before .before .before .before .loop .inv .2)  -- same-length-2
+    (omega (arith, a .0, below, l .rules .tasks), ((u, l, placing-next (l .rules .sound) w below (taken-ledger w (v .0) _ (x .try-processor .result) (y .0) e) good step, y .1), omega (arith, a .1 .1, i .loop .inv .2, x .try-processor .kept .1 .1 .1 .1 .1 .1 .1 .1 .1 .1 .1 .1 .0))))  -- first-requires
+    (λ c. c .before .before .before .before .first .kept .1 .1 .1 .1 .1 .1 .1 .0 ∙ c .before .before .before .before .before .before .before .before .before .before .before .before .before .before .before .before .before .try-processor .kept .1 .1 .1 .1 .1 .1 .1 .1 .0 ∙ c .before .before .before .before .before .before .before .before .before .before .before .before .before .before .before .before .before .before .before .before .before .before .before .before .loop .inv .1)  -- same-length
+    (λ c. c .before .before .before .before .first .kept .1 .1 .1 .1 .1 .1 .1 .1 .1 .1 .1 .0 ∙ c .before .before .before .before .before .before .before .before .before .before .before .before .before .before .before .before .before .try-processor .kept .1 .1 .1 .1 .1 .1 .1 .1 .1 .1 .1 .1 .0 ∙ c .before .before .before .before .before .before .before .before .before .before .before .before .before .before .before .before .before .before .before .before .before .before .before .before .loop .inv .2)  -- same-length-2
     (λ c u l w k.
     let f = c .before .before .before .before in
     let x = f .before .before .before .before .before .before .before .before .before .before .before .before .before in
@@ -98,8 +98,8 @@ pub +first-spec : {M : Type 1} → statement M
     let x = c .before .before .before .before .before in
     let i = x .before .before .before .before .before .before .before in (
       omega arith,
-      x .try-processor .kept .1 .1 .1 .1 .1 .1 .1 .1 .1 .1 .1 .1 .1 .1 .1 .1 .1 .1 .1 .0 ∙ i .loop .inv .1,
-      x .try-processor .kept .1 .1 .1 .1 .1 .1 .1 .1 .1 .1 .1 .1 .1 .1 .1 .1 .1 .1 .1 .1 .1 .1 .1 .0 ∙ i .loop .inv .2,
+      x .try-processor .kept .1 .1 .1 .1 .1 .1 .1 .1 .0 ∙ i .loop .inv .1,
+      x .try-processor .kept .1 .1 .1 .1 .1 .1 .1 .1 .1 .1 .1 .1 .0 ∙ i .loop .inv .2,
       λ u l w k. let v = i .loop .inv .3 u l w k in
           let y = x .try-processor .ensures u l (passing-placing w (v .0)) (passing-below w (v .0)) (v .1) in
           (passing-next w (v .0) _ (x .try-processor .result) (y .0) (omega (arith, w .upto, l .rules .tasks, i .before .if1 .left)) (c .if3 .left), y .1),

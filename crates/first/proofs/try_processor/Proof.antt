@@ -42,7 +42,7 @@ try-processor-spec =
     let a = d .before .before .before .before .before .before .before .before .before .before .pre in
     let l = a .0 .1 in
     let w = a .0 .2 in
-    ((a .0 .0, l, listing (l .rules .sound) w, d .decide-on .ensures (a .0 .0) l (deciding (l .rules .sound) w) (a .0 .4) .1), w .open-from _ (omega arith) (omega (arith, l .rules .tasks)), a .2, omega (arith, a .3, d .decide-on .kept .1 .1 .1 .1 .1 .1 .1 .1 .1 .1 .1 .1 .1 .1 .1 .1 .1 .1 .0)))  -- pass-over-requires
+    ((a .0 .0, l, listing (l .rules .sound) w, d .decide-on .ensures (a .0 .0) l (deciding (l .rules .sound) w) (a .0 .4) .1), w .open-from _ (omega arith) (omega (arith, l .rules .tasks)), a .2, omega (arith, a .3, d .decide-on .kept .1 .1 .1 .1 .1 .1 .1 .0)))  -- pass-over-requires
     (λ c. search needs)  -- same-length-3
     (λ c. search needs)  -- same-length-4
     (λ c t l w b k.

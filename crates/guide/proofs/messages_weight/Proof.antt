@@ -5,10 +5,10 @@ use Rattle.guide.proofs.messages_weight.Statement.{statement}
 use Rattle.guide.proofs.messages_weight.Tie as tie
 
 abbrev Inv-loop : tie.InvT-loop
-Inv-loop sender receiver amounts messages capacity task sum₀ j₀ sum j = (j ≤ messages) × (sum ≤ j * 4096)
+Inv-loop messages count capacity task sum₀ j₀ sum j = (j ≤ count) × (sum ≤ j * 4096)
 
 abbrev μ-loop : tie.MeasureT-loop
-μ-loop sender receiver amounts messages capacity task sum₀ j₀ sum j = messages - j
+μ-loop messages count capacity task sum₀ j₀ sum j = count - j
 
 pub messages-weight-spec : {M : Type 1} → statement M
 messages-weight-spec =
@@ -17,12 +17,15 @@ messages-weight-spec =
     Inv-loop
     μ-loop
     (λ c. search needs)  -- loop-holds
+    (λ c. search needs)  -- mul-from
+    (λ c. search needs)  -- index-1-from
+    (λ c. search needs)  -- index-2-from
+    (λ c. search needs)  -- mul-to
+    (λ c. search needs)  -- index-1-to
+    (λ c. search needs)  -- index-2-to
     (λ c. search needs)  -- mul-message-weight
-    (λ c. search needs)  -- element-copy-out-message-weight
-    (λ c. search needs)  -- mul-message-weight-2
-    (λ c. search needs)  -- element-copy-out-message-weight-2
-    (λ c. search needs)  -- mul-message-weight-3
-    (λ c. search needs)  -- element-copy-out-message-weight-3
+    (λ c. search needs)  -- index-1-message-weight
+    (λ c. search needs)  -- index-2-message-weight
     (λ c κs. search needs)  -- message-weight-requires
     (λ c. search needs)  -- add-sum
     (λ c. search needs)  -- add-j

@@ -5,10 +5,10 @@ use Rattle.guide.proofs.nowhere.Statement.{statement}
 use Rattle.guide.proofs.nowhere.Tie as tie
 
 abbrev Inv-loop : tie.InvT-loop
-Inv-loop residence memory loads s processors i j p₀ p = p ≤ processors
+Inv-loop columns s processors i j p₀ p = p ≤ processors
 
 abbrev μ-loop : tie.MeasureT-loop
-μ-loop residence memory loads s processors i j p₀ p = processors - p
+μ-loop columns s processors i j p₀ p = processors - p
 
 pub nowhere-spec : {M : Type 1} → statement M
 nowhere-spec =

@@ -6,10 +6,10 @@ use Rattle.guide.proofs.strangers.Statement.{statement}
 use Rattle.guide.proofs.strangers.Tie as tie
 
 abbrev Inv-loop : tie.InvT-loop
-Inv-loop work period deadline priority higher residence memory exclusions loads sizes s i n count₀ j₀ count j = (j ≤ n) × (count ≤ j)
+Inv-loop timing columns sizes s i n count₀ j₀ count j = (j ≤ n) × (count ≤ j)
 
 abbrev μ-loop : tie.MeasureT-loop
-μ-loop work period deadline priority higher residence memory exclusions loads sizes s i n count₀ j₀ count j = n - j
+μ-loop timing columns sizes s i n count₀ j₀ count j = n - j
 
 pub strangers-spec : {M : Type 1} → statement M
 strangers-spec =

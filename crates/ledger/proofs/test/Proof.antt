@@ -26,7 +26,7 @@ module _ {s : Tasks} {listing : Bool} {places set count : ℕ} {list : List ℕ}
       clear false = f
       clear true = inl f
 
-late : (c : tie.Else1) → let z = c .before .before .before .before .args in LateSet (tasksOf (z .n) (z .c .now) (z .t .now) (z .d .now) (z .priority .now)) (has (z .set))
+late : (c : tie.Else1) → let z = c .before .before .before .before .args in LateSet (tasksOf (z .n) (z .timing .now)) (has (z .set))
 late c = let b = c .before .is-late in late-yes (b .result) (b .ensures .0) (not-false (b .result) (c .if1 .left))
 
 pub test-spec : {M : Type 1} → statement M
@@ -37,50 +37,50 @@ test-spec =
     (λ c. let b = c .before .is-late in
     let z = c .before .before .before .before in
     (in-time (z .pre .1) (late-no (b .result) (b .ensures .0) (not-true (b .result) (c .if1 .taken))), b .ensures .1))  -- returns
-    (λ c. let l = c .before in
+    (λ c. let l = c .before .before in
     let z = l .before .before .before .before in
-    (unchanged (z .pre .1) true (rw (not-true (z .args .listing) (c .if2 .taken)) (late l)), l .before .is-late .ensures .1))  -- returns-2
+    (unchanged (z .pre .1) true (rw (not-true (z .args .mode .listing) (c .if2 .taken)) (late l)), l .before .is-late .ensures .1))  -- returns-2
     (λ c κs. search needs)  -- covered-requires
     (λ c. search needs)  -- same-length
     (λ c.
     let l = c .before .before .before .before in
-    let z = l .before .before .before .before .before in
+    let z = l .before .before .before .before .before .before in
     let a = z .args in
     let v = c .before .covered in (
       unchanged (z .pre .1) true
-          (rw (not-false (a .listing) (l .if2 .left)) (covered-yes (a .list .now) (a .count) (a .set) (v .ensures .0) (c .if3 .taken))),
-      v .ensures .1 _ (l .before .before .is-late .ensures .1),
+          (rw (not-false (a .mode .listing) (l .if2 .left)) (covered-yes (a .list .now) (a .count) (a .set) (v .ensures .0) (c .if3 .taken))),
+      v .ensures .1 _ (l .before .before .before .is-late .ensures .1),
     ))  -- returns-3
     (λ c. search needs)  -- same-length-2
     (λ c.
-    let n = c .before in
+    let n = c .before .before in
     let l = n .before .before .before .before in
-    let z = l .before .before .before .before .before in
+    let z = l .before .before .before .before .before .before in
     let a = z .args in
     let v = n .before .covered in (
       unchanged (z .pre .1) false
-          (rw (not-false (a .listing) (l .if2 .left)) (inr (search needs, covered-no (a .list .now) (a .count) (a .set) (v .ensures .0) (n .if3 .left)))),
-      v .ensures .1 _ (l .before .before .is-late .ensures .1),
+          (rw (not-false (a .mode .listing) (l .if2 .left)) (inr (search needs, covered-no (a .list .now) (a .count) (a .set) (v .ensures .0) (n .if3 .left)))),
+      v .ensures .1 _ (l .before .before .before .is-late .ensures .1),
     ))  -- returns-4
-    (λ c κs. (search needs, late (c .before .before .before .before .before .before)))  -- extract-requires
+    (λ c κs. (search needs, late (c .before .before .before .before .before .before .before .before)))  -- extract-requires
     (λ c κs. search needs)  -- append-requires
-    (λ c. search needs)  -- add-t24
+    (λ c. search needs)  -- add-t19
     (λ c. search needs)  -- same-length-3
     (λ c.
     let m = c .before .before .before .before in
-    let n = m .before .before in
+    let n = m .before .before .before in
     let l = n .before .before .before .before in
-    let z = l .before .before .before .before .before in
+    let z = l .before .before .before .before .before .before in
     let a = z .args in
     let w = z .pre .1 in
     let v = n .before .covered in
-    let free : a .count < a .places = search needs in
+    let free : a .count < a .mode .places = search needs in
     let fits : m .extract .result < 2 ^ 32 = search needs in
     let e = c .before .before .append .ensures in (
       record {
         ledger = ledger-append w free fits e (m .extract .ensures) (covered-no (a .list .now) (a .count) (a .set) (v .ensures .0) (n .if3 .left));
         grows = grows-append w free fits e (m .extract .ensures .inside);
-        verdict = rw (not-false (a .listing) (l .if2 .left)) (covered-append w free fits e (m .extract .ensures .inside));
+        verdict = rw (not-false (a .mode .listing) (l .if2 .left)) (covered-append w free fits e (m .extract .ensures .inside));
       },
-      v .ensures .1 _ (l .before .before .is-late .ensures .1),
+      v .ensures .1 _ (l .before .before .before .is-late .ensures .1),
     )))  -- returns-5

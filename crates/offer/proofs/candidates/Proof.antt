@@ -9,7 +9,7 @@ use lib.ListN.{length}
 use Rattle.mask.specs.Mask.{has}
 use Rattle.mask.proofs.Visit.{Visit, visit-start, visit-member, visit-less, visit-next}
 use Rattle.table.specs.declared.Table.{Table}
-use Rattle.conflict.specs.Entry.{tasksIn}
+use Rattle.timing.specs.Timing.{tasksIn}
 use Rattle.known.specs.Known.{Knows}
 use Rattle.ledger.specs.Ledger.{Ledger}
 use Rattle.partial.specs.declared.State.{State}
@@ -21,16 +21,16 @@ use Rattle.offer.proofs.candidates.Statement.{statement}
 use Rattle.offer.proofs.candidates.Tie as tie
 
 abbrev Inv-loop : tie.InvT-loop
-Inv-loop work period deadline priority higher residence memory exclusions co sender receiver loads amounts sizes p listing list₀ places count known₀ site set₀ listed₀ rest₀ list known set listed rest =
+Inv-loop timing columns messages sizes p mode list₀ count known₀ site set₀ listed₀ rest₀ list known set listed rest =
     Visit 32 (site .left) rest (λ k. Unit {0}) × (length list ≡ length list₀)
-    × ((t : Table) (s : State) → Lends t sizes work period deadline priority higher residence memory exclusions co sender receiver loads amounts → Fits t s → site ≡ siteOf s p → Ledger (tasksIn t) places list₀ count
-    → Knows (tasksIn t) known₀ → Choosing t listing places s p list₀ count set rest list listed × Knows (tasksIn t) known)
+    × ((t : Table) (s : State) → Lends t sizes timing columns messages → Fits t s → site ≡ siteOf s p → Ledger (tasksIn t) (mode .places) list₀ count
+    → Knows (tasksIn t) known₀ → Choosing t (mode .listing) (mode .places) s p list₀ count set rest list listed × Knows (tasksIn t) known)
 
 abbrev μ-loop : tie.MeasureT-loop
-μ-loop work period deadline priority higher residence memory exclusions co sender receiver loads amounts sizes p listing list₀ places count known₀ site set₀ listed₀ rest₀ list known set listed rest = rest
+μ-loop timing columns messages sizes p mode list₀ count known₀ site set₀ listed₀ rest₀ list known set listed rest = rest
 
 -- the task that is looked at
-member : (c : tie.After-lowest Inv-loop μ-loop) → T (has (c .before .before .before .before .before .before .before .args .t15 .left) (c .lowest .result))
+member : (c : tie.After-lowest Inv-loop μ-loop) → T (has (c .before .before .before .before .before .before .before .args .t5 .left) (c .lowest .result))
 member c = visit-member (c .before .before .loop .inv .0) (search needs) (c .lowest .ensures)
 
 low : (c : tie.After-lowest Inv-loop μ-loop) → c .lowest .result < 24
@@ -42,12 +42,12 @@ candidates-spec =
     (tie.spec
     Inv-loop
     μ-loop
-    (λ c. search needs)  -- mul-t29
-    (λ c. search needs)  -- element-copy-out-t32
-    (λ c. search needs)  -- mul-t34
-    (λ c. search needs)  -- element-copy-out-t37
-    (λ c. search needs)  -- mul-t38
-    (λ c. search needs)  -- element-copy-out-t41
+    (λ c. search needs)  -- mul-t18
+    (λ c. search needs)  -- element-copy-out-t21
+    (λ c. search needs)  -- mul-t23
+    (λ c. search needs)  -- element-copy-out-t26
+    (λ c. search needs)  -- mul-t27
+    (λ c. search needs)  -- element-copy-out-t30
     (λ c.
     let p = c .before .before .before .before .args .p in
     (visit-start (search needs), refl, λ t s l f e w knows. (rw (left-at s p e) (choosing-start w), knows)))  -- loop-holds
@@ -69,7 +69,7 @@ candidates-spec =
     let i = l .before .before in
     let p = i .before .before .before .before .before .args .p in (
       visit-next (i .loop .inv .0) (search needs) (l .lowest .ensures) (c .remove .ensures) tt,
-      j .join .kept .1 .1 .1 .1 .1 .1 .1 .1 .1 .1 .1 .1 .1 .1 .1 .1 .1 .1 .0 ∙ i .loop .inv .1,
+      j .join .kept .1 .1 .1 .1 .1 .1 .1 .1 .0 ∙ i .loop .inv .1,
       λ t s e f q w knows.
           let v = i .loop .inv .2 t s e f q w knows in
           let u = free-at s (l .lowest .result) p q (member l) in

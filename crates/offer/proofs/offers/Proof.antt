@@ -5,7 +5,7 @@ use native.Mathlib.Omega.{arith}
 use borrow.Author.Needs.{needs}
 use lib.ListN.{length, length-set}
 use Rattle.table.specs.declared.Table.{Table}
-use Rattle.conflict.specs.Entry.{tasksIn}
+use Rattle.timing.specs.Timing.{tasksIn}
 use Rattle.known.specs.Known.{Knows}
 use Rattle.ledger.specs.Ledger.{Ledger}
 use Rattle.partial.specs.Partial.{Fits}
@@ -15,13 +15,13 @@ use Rattle.offer.proofs.offers.Statement.{statement}
 use Rattle.offer.proofs.offers.Tie as tie
 
 abbrev Inv-loop : tie.InvT-loop
-Inv-loop work period deadline priority higher residence memory exclusions co sender receiver loads amounts sizes s listing list₀ places count known₀ sets₀ listed₀ p₀ list known sets listed p =
+Inv-loop timing columns messages sizes s mode list₀ count known₀ sets₀ listed₀ p₀ list known sets listed p =
     (p ≤ sizes .processors) × (length sets ≡ 8) × (length list ≡ length list₀)
-    × ((t : Table) → Lends t sizes work period deadline priority higher residence memory exclusions co sender receiver loads amounts → Fits t s → Ledger (tasksIn t) places list₀ count → Knows (tasksIn t) known₀
-    → Offering t listing places s list₀ count p sets list listed × Knows (tasksIn t) known)
+    × ((t : Table) → Lends t sizes timing columns messages → Fits t s → Ledger (tasksIn t) (mode .places) list₀ count → Knows (tasksIn t) known₀
+    → Offering t (mode .listing) (mode .places) s list₀ count p sets list listed × Knows (tasksIn t) known)
 
 abbrev μ-loop : tie.MeasureT-loop
-μ-loop work period deadline priority higher residence memory exclusions co sender receiver loads amounts sizes s listing list₀ places count known₀ sets₀ listed₀ p₀ list known sets listed p = sizes .processors - p
+μ-loop timing columns messages sizes s mode list₀ count known₀ sets₀ listed₀ p₀ list known sets listed p = sizes .processors - p
 
 pub offers-spec : {M : Type 1} → statement M
 offers-spec =
@@ -46,7 +46,7 @@ offers-spec =
     let i = b .before .before in (
       omega arith,
       simp length-set (i .loop .inv .1),
-      x .candidates .kept .1 .1 .1 .1 .1 .1 .1 .1 .1 .1 .1 .1 .1 .1 .1 .1 .1 .0 ∙ i .loop .inv .2,
+      x .candidates .kept .1 .1 .1 .1 .1 .1 .1 .0 ∙ i .loop .inv .2,
       λ t l f w knows.
           let v = i .loop .inv .3 t l f w knows in
           let a = x .candidates .ensures t l f (v .0 .ledger) (v .1) in (

@@ -11,6 +11,8 @@ use borrow.Fn.PlainCycle.{Measures, is, falls, and}
 use lib.Dec.{T}
 use lib.ListN.{length}
 use Rattle.schedule.specs.Arrays.{tasksOf}
+use Rattle.schedule.proofs.TasksOfArrays.{with-set}
+use Rattle.columns.specs.Columns.{memoryRow, exclusionRow, loadRow}
 use Rattle.known.specs.Known.{Knows}
 use Rattle.ledger.proofs.test.Reads as test-reads
 use Rattle.mask.proofs.Laws.{insert-below}
@@ -18,7 +20,7 @@ use Rattle.mask.proofs.has.Reads as has-reads
 use Rattle.mask.proofs.insert.Reads as insert-reads
 use Rattle.mask.proofs.remove.Reads as remove-reads
 use Rattle.packing.proofs.Taking.{room-memory, room-load}
-use Rattle.packing.proofs.Packing.{limits-set, taken-refused, taken-bad, taken-packs, taken-on, Packing, packing-start, packing-packs, packing-task, packing-reach, packing-next, packing-end}
+use Rattle.packing.proofs.Packing.{taken-refused, taken-bad, taken-packs, taken-on, Packing, packing-start, packing-packs, packing-task, packing-reach, packing-next, packing-end}
 use Rattle.packing.proofs.most.Reads as most
 use Rattle.packing.proofs.most.Kinds as most-kinds
 use Rattle.packing.proofs.+most+take.Lts-most as most-lts
@@ -31,10 +33,10 @@ use Rattle.packing.proofs.+most+take.{statement}
 use Rattle.packing.proofs.+most+take.Tie.{close}
 
 abbrev μ-most : Measures 3 most-kinds.ps ℕ
-μ-most κs a = 2 * (24 - a .1 .1 .1 .1 .1 .1 .1 .1 .1 .1 .1 .1 .0) + 1
+μ-most κs a = 2 * (24 - a .1 .1 .1 .1 .1 .0) + 1
 
 abbrev μ-take : Measures 3 take-kinds.ps ℕ
-μ-take κs a = 2 * (24 - a .1 .1 .1 .1 .1 .1 .1 .1 .1 .1 .1 .1 .1 .0) + 2
+μ-take κs a = 2 * (24 - a .1 .1 .1 .1 .1 .1 .0) + 2
 
 abbrev most-at : ℕ → In 3 most-kinds.ps
 most-at t = and 3 most-kinds.ps (is 3 most-kinds.ps μ-most t) most.Pre
@@ -49,13 +51,13 @@ abbrev take-below : ℕ → In 3 take-kinds.ps
 take-below t = and 3 take-kinds.ps (falls 3 take-kinds.ps _<_ μ-take t) take.Pre
 
 abbrev most-Inv-loop : most-lts.InvT-loop
-most-Inv-loop work period deadline priority higher memory exclusions loads weights guide n on at candidates space spare weight reach stop best listing list₀ places count known₀ next₀ left₀ all₀ top₀ listed₀ list known next left all top listed =
+most-Inv-loop timing columns weights n on at candidates space spare weight reach stop best mode list₀ count known₀ next₀ left₀ all₀ top₀ listed₀ list known next left all top listed =
     (next₀ ≤ next) × (length list ≡ length list₀)
-    × Packing n (tasksOf n work period deadline priority) listing places memory exclusions loads weights on candidates space spare weight stop best list₀ count left all top list listed
-    × Knows (tasksOf n work period deadline priority) known
+    × Packing n (tasksOf n timing) (mode .listing) (mode .places) (memoryRow columns) (exclusionRow columns) (loadRow columns) weights on candidates space spare weight stop best list₀ count left all top list listed
+    × Knows (tasksOf n timing) known
 
 abbrev most-μ-loop : most-lts.MeasureT-loop
-most-μ-loop work period deadline priority higher memory exclusions loads weights guide n on at candidates space spare weight reach stop best listing list₀ places count known₀ next₀ left₀ all₀ top₀ listed₀ list known next left all top listed =
+most-μ-loop timing columns weights n on at candidates space spare weight reach stop best mode list₀ count known₀ next₀ left₀ all₀ top₀ listed₀ list known next left all top listed =
     24 - next
 
 -- a test that passed
@@ -70,6 +72,8 @@ pub +most+take-spec : {M : Type 1} → statement M
   remove-reads.Learnt,
   take-below t,
   take.Post,
+  wide-reads.Asked,
+  wide-reads.Learnt,
 )
     (most-at t)
     most.Post
@@ -82,9 +86,9 @@ pub +most+take-spec : {M : Type 1} → statement M
       packing-start (z .pre .1 .0) (z .pre .1 .1) (⊎-elim (λ w. omega arith) (λ w. omega arith) (c .if1 .came)),
       z .pre .1 .2,
     ))  -- loop-holds
-    (λ c. search needs)  -- add-k
     (λ c. search needs)  -- mul-k
-    (λ c. search needs)  -- element-copy-out-k
+    (λ c. search needs)  -- index-1-k
+    (λ c. search needs)  -- index-2-k
     (λ c. search needs)  -- cast-k
     (λ c. search needs)  -- add-next
     (λ c κs. search needs)  -- has-requires
@@ -98,29 +102,30 @@ pub +most+take-spec : {M : Type 1} → statement M
     let u = passed (h .has .ensures) (r .before .if4 .taken) in
     let p = z .pre .1 .0 in
     rw (r .remove .ensures) (omega (arith, z .pre .0, i .loop .inv .0, h .before .before .before .before .loop-test .taken), (packing-packs p v _, packing-task p v _ u, packing-reach p v _ u, i .loop .inv .3)))  -- take-requires
-    (λ c. search needs)  -- mul-all
+    (λ c. search needs)  -- mul-wide
     (λ c.
     let r = c .before .before .before .before .before in
     let h = r .before .before in
     let i = h .before .before .before .before .before in
     let p = i .before .before .before .pre .1 .0 in
-    omega (arith, p .limits .few, packing-task p (i .loop .inv .2) _ (passed (h .has .ensures) (r .before .if4 .taken))))  -- element-copy-out-all
+    omega (arith, p .limits .few, packing-task p (i .loop .inv .2) _ (passed (h .has .ensures) (r .before .if4 .taken))))  -- element-copy-out-wide
+    (λ c κs. search needs)  -- wide-requires
     (λ c.
-    let r = c .before .before .before .before .before .before in
+    let r = c .before .before .before .before .before .before .before in
     let h = r .before .before in
     let i = h .before .before .before .before .before in
-    omega (arith, packing-reach (i .before .before .before .pre .1 .0) (i .loop .inv .2) _ (passed (h .has .ensures) (r .before .if4 .taken))))  -- sub-all
-    (λ c. omega (arith, c .before .before .before .before .before .before .before .before .before .before .before .before .loop-test .taken))  -- loop-less
+    omega (arith, c .wide .ensures .0, packing-reach (i .before .before .before .pre .1 .0) (i .loop .inv .2) _ (passed (h .has .ensures) (r .before .if4 .taken))))  -- sub-all
+    (λ c. omega (arith, c .before .before .before .before .before .before .before .before .before .before .before .before .before .loop-test .taken))  -- loop-less
     (λ c.
-    let x = c .before .before .before in
+    let x = c .before .before .before .before in
     let r = x .before .before .before in
     let h = r .before .before in
     let i = h .before .before .before .before .before in
     let u = passed (h .has .ensures) (r .before .if4 .taken) in
     let a = rw (r .remove .ensures) at (x .take .ensures .0) in (
       omega (arith, i .loop .inv .0),
-      x .take .kept .1 .1 .1 .1 .1 .1 .1 .1 .1 .1 .1 .1 .1 .1 .1 .1 .1 .1 .1 .1 .1 .1 .0 ∙ i .loop .inv .1,
-      rw (r .remove .ensures) (packing-next (i .before .before .before .pre .1 .0) (i .loop .inv .2) _ u (x .take .result) a),
+      x .take .kept .1 .1 .1 .1 .1 .1 .1 .1 .1 .1 .1 .1 .1 .1 .1 .0 ∙ i .loop .inv .1,
+      rw (r .remove .ensures, c .wide .ensures .0) (packing-next (i .before .before .before .pre .1 .0) (i .loop .inv .2) _ u (x .take .result) a),
       x .take .ensures .1,
     ))  -- loop-again
     (λ c. omega (arith, c .before .before .before .before .before .loop-test .taken))  -- loop-less-2
@@ -153,7 +158,7 @@ pub +most+take-spec : {M : Type 1} → statement M
     (λ c κs.
     let j = c .before .before in
     let p = j .before .before .before .before .pre .1 in
-    rw (j .insert .ensures) (limits-set (p .0 .limits) (insert-below _ _ _ (p .0 .limits .inside) (p .1)), p .0 .ledger, p .3))  -- test-requires
+    rw (j .insert .ensures) (with-set (p .0 .limits) _ (insert-below _ _ _ (p .0 .limits .inside) (p .1)), p .0 .ledger, p .3))  -- test-requires
     (λ c. search needs)  -- same-length
     (λ c.
     let x = c .before .before .before in
@@ -161,34 +166,40 @@ pub +most+take-spec : {M : Type 1} → statement M
     let p = j .before .before .before .before .pre .1 in
     (taken-bad (p .0) (p .1) (x .test .result) (rw (j .insert .ensures) at (x .test .ensures .0)) (c .if2 .taken), x .test .ensures .1))  -- returns-2
     (λ c. let p = c .before .before .before .before .before .before .before .before .before .before .pre .1 in omega (arith, p .1, p .0 .limits .few))  -- mul-wide
-    (λ c. let p = c .before .before .before .before .before .before .before .before .before .before .pre .1 in omega (arith, p .1, p .0 .limits .few))  -- element-copy-out-wide
+    (λ c. search needs)  -- index-1-wide
+    (λ c. let p = c .before .before .before .before .before .before .before .before .before .before .pre .1 in omega (arith, p .1, p .0 .limits .few))  -- index-2-wide
     (λ c κs. search needs)  -- wide-requires
     (λ c.
     let e = c .before .before .before .before .before .before .before .before .before in
     let a = e .before .before .before .args in
-    omega (arith, c .wide .ensures .0, room-memory (a .memory .now) (a .exclusions .now) (a .loads .now) (a .on) (a .space) (a .spare) (a .k) (e .before .room .ensures) (not-false (e .before .room .result) (e .if1 .left))))  -- sub-most
-    (λ c. let p = c .before .before .before .before .before .before .before .before .before .before .before .before .pre .1 in omega (arith, p .1, p .0 .limits .few))  -- mul-most
-    (λ c. let p = c .before .before .before .before .before .before .before .before .before .before .before .before .pre .1 in omega (arith, p .1, p .0 .limits .few))  -- element-copy-out-most
+    omega (arith, c .wide .ensures .0, room-memory (memoryRow (a .columns .now)) (exclusionRow (a .columns .now)) (loadRow (a .columns .now)) (a .on) (a .space) (a .spare) (a .k) (e .before .room .ensures) (not-false (e .before .room .result) (e .if1 .left))))  -- sub-most
+    (λ c. let p = c .before .before .before .before .before .before .before .before .before .before .before .before .pre .1 in omega (arith, p .1, p .0 .limits .few))  -- mul-wide-2
+    (λ c. search needs)  -- index-1-wide-2
+    (λ c. let p = c .before .before .before .before .before .before .before .before .before .before .before .before .pre .1 in omega (arith, p .1, p .0 .limits .few))  -- index-2-wide-2
+    (λ c κs. search needs)  -- wide-requires-2
     (λ c.
-    let e = c .before .before .before .before .before .before .before .before .before .before in
+    let e = c .before .before .before .before .before .before .before .before .before .before .before in
     let a = e .before .before .before .args in
-    room-load (a .memory .now) (a .exclusions .now) (a .loads .now) (a .on) (a .space) (a .spare) (a .k) (e .before .room .ensures) (not-false (e .before .room .result) (e .if1 .left)))  -- sub-most-2
-    (λ c. let p = c .before .before .before .before .before .before .before .before .before .before .before .before .before .pre .1 in omega (arith, p .1, p .0 .limits .few))  -- mul-most-2
-    (λ c. let p = c .before .before .before .before .before .before .before .before .before .before .before .before .before .pre .1 in omega (arith, p .1, p .0 .limits .few))  -- element-copy-out-most-2
-    (λ c. let z = c .before .before .before .before .before .before .before .before .before .before .before .before .before .before in omega (arith, z .pre .1 .2, z .fits .reach))  -- add-most
+    omega (arith, c .wide2 .ensures .0, room-load (memoryRow (a .columns .now)) (exclusionRow (a .columns .now)) (loadRow (a .columns .now)) (a .on) (a .space) (a .spare) (a .k) (e .before .room .ensures) (not-false (e .before .room .result) (e .if1 .left))))  -- sub-most-2
+    (λ c. let p = c .before .before .before .before .before .before .before .before .before .before .before .before .before .before .pre .1 in omega (arith, p .1, p .0 .limits .few))  -- mul-wide-3
+    (λ c. let p = c .before .before .before .before .before .before .before .before .before .before .before .before .before .before .pre .1 in omega (arith, p .1, p .0 .limits .few))  -- element-copy-out-wide
+    (λ c κs. search needs)  -- wide-requires-3
+    (λ c. let z = c .before .before .before .before .before .before .before .before .before .before .before .before .before .before .before .before in omega (arith, c .wide3 .ensures .0, z .pre .1 .2, z .fits .reach))  -- add-most
     (λ c κs.
-    let v = c .before .before .before .before in
+    let v = c .before .before .before .before .before .before in
     let x = v .before .before .before .before .before in
     let j = x .before .before .before in
     let z = j .before .before .before .before in
     let p = z .pre .1 in
-    (omega (arith, z .pre .0), rw (j .insert .ensures) (taken-packs (p .0) (p .1) (x .test .result) (rw (j .insert .ensures) at (x .test .ensures .0)), p .2, x .test .ensures .1)))  -- most-requires
+    (omega (arith, z .pre .0), rw (j .insert .ensures) (taken-packs (p .0) (p .1) (x .test .result) (rw (j .insert .ensures) at (x .test .ensures .0)), omega (arith, p .2, c .before .before .wide3 .ensures .0), x .test .ensures .1)))  -- most-requires
     (λ c. search needs)  -- same-length-2
     (λ c.
     let y = c .before .before in
-    let v = y .before .before .before .before .before in
+    let w = y .before .before .before in
+    let u = w .before .before in
+    let v = u .before .before in
     let x = v .before .before .before .before .before in
     let j = x .before .before .before in
     let z = j .before .before .before .before in
     let p = z .pre .1 in
-    (taken-on (p .0) (p .1) (x .test .result) (rw (j .insert .ensures) at (x .test .ensures .0)) (y .most .result) (rw (j .insert .ensures, v .wide .ensures .0) at (y .most .ensures .0)), y .most .ensures .1))  -- returns-3
+    (taken-on (p .0) (p .1) (x .test .result) (rw (j .insert .ensures) at (x .test .ensures .0)) (y .most .result) (rw (j .insert .ensures, v .wide .ensures .0, u .wide2 .ensures .0, w .wide3 .ensures .0) at (y .most .ensures .0)), y .most .ensures .1))  -- returns-3

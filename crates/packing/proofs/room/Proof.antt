@@ -15,12 +15,23 @@ room-spec =
     tie.close
     (tie.spec
     (λ c. search needs)  -- mul-wide
-    (λ c. search needs)  -- element-copy-out-wide
+    (λ c. search needs)  -- index-1-wide
+    (λ c. search needs)  -- index-2-wide
     (λ c κs. search needs)  -- wide-requires
     (λ c. simp (lt-leb _ _ (rw (c .before .wide .ensures .0) at (c .if1 .taken))))  -- returns
-    (λ c. search needs)  -- mul-if2
-    (λ c. search needs)  -- element-copy-out-if2
-    (λ c. let w = c .before .before in simp (le-leb _ _ (rw (w .before .wide .ensures .0) at (w .if1 .left)), lt-leb _ _ (c .if2 .taken)))  -- returns-2
+    (λ c. search needs)  -- mul-wide-2
+    (λ c. search needs)  -- index-1-wide-2
+    (λ c. search needs)  -- index-2-wide-2
+    (λ c κs. search needs)  -- wide-requires-2
+    (λ c.
+    let v = c .before in
+    let w = v .before .before in
+    simp (le-leb _ _ (rw (w .before .wide .ensures .0) at (w .if1 .left)), lt-leb _ _ (rw (v .wide2 .ensures .0) at (c .if2 .taken))))  -- returns-2
     (λ c. search needs)  -- mul-result
-    (λ c. search needs)  -- element-copy-out-result
-    (λ c. let w = c .before .before .before in the-last _ _ _ (le-leb _ _ (rw (w .before .wide .ensures .0) at (w .if1 .left))) (le-leb _ _ (c .before .if2 .left))))  -- returns-3
+    (λ c. search needs)  -- index-1-result
+    (λ c. search needs)  -- index-2-result
+    (λ c.
+    let u = c .before in
+    let v = u .before in
+    let w = v .before .before in
+    the-last _ _ _ (le-leb _ _ (rw (w .before .wide .ensures .0) at (w .if1 .left))) (le-leb _ _ (rw (v .wide2 .ensures .0) at (u .if2 .left)))))  -- returns-3

@@ -1,9 +1,15 @@
 -- The tests are those of the processor as the state has it. Assumes nothing.
 use native.Mathlib.Omega.{arith}
 use borrow.Author.Needs.{needs}
+use Prim.Native.Nat.{_<_}
+use Rattle.partial.proofs.MaskSets.{meets-if, meets-not}
 use Rattle.partial.proofs.Deciding.{free-at, own-test-fails, group-parted, network-decides, bounds, carried}
 use Rattle.partial.proofs.attempt.Statement.{statement}
 use Rattle.partial.proofs.attempt.Tie as tie
+
+-- k is a task of the table
+task : (a : tie.Start) → a .args .k < 24
+task a = let z = a .pre .0 in bounds (z .2) (z .3) (a .args .k) (a .args .p) (free-at (z .1) (a .args .k) (a .args .p) (z .4) (a .pre .1)) (a .pre .2) .0
 
 pub attempt-spec : {M : Type 1} → statement M
 attempt-spec =
@@ -17,25 +23,23 @@ attempt-spec =
     let a = c .before .before in
     let z = a .pre .0 in
     bounds (z .2) (z .3) (a .args .k) (a .args .p) (free-at (z .1) (a .args .k) (a .args .p) (z .4) (a .pre .1)) (a .pre .2) .2)  -- neither-requires
-    (λ c κs.
-    let a = c .before .before .before in
-    let z = a .pre .0 in
-    let b = bounds (z .2) (z .3) (a .args .k) (a .args .p) (free-at (z .1) (a .args .k) (a .args .p) (z .4) (a .pre .1)) (a .pre .2) in
-    (b .3, omega (arith, b .0)))  -- parted-requires
+    (λ c. record { fits = omega (arith, task (c .before .before .before)) })  -- mul-if2
+    (λ c. search needs)  -- index-1-if2
+    (λ c. task (c .before .before .before))  -- index-2-if2
     (λ c.
     let h = c .before .before in
     let a = h .before .before .before in
-    λ t s l f e. group-parted l f (a .args .k) (a .args .p) (free-at s (a .args .k) (a .args .p) e (a .pre .1)) (a .pre .2) (rw e at (h .neither .ensures)) (c .before .parted .ensures) (c .if2 .taken))  -- returns-2
+    λ t s l f e. group-parted l f (a .args .k) (a .args .p) (free-at s (a .args .k) (a .args .p) e (a .pre .1)) (a .pre .2) (rw e at (h .neither .ensures)) (meets-if _ _ (c .if2 .taken)))  -- returns-2
     (λ c κs.
     let a = c .before .before .before .before .before in
     let z = a .pre .0 in
     carried (z .2) (z .3) (a .args .k) (a .args .p) (free-at (z .1) (a .args .k) (a .args .p) (z .4) (a .pre .1)) (a .pre .2))  -- between-requires
     (λ c.
     let b = c .before in
-    let d = b .before .before in
-    let h = d .before in
+    let d = b .before in
+    let h = d .before .before in
     let g = h .before in
     let a = g .before .before in
     λ t s l f e.
     rw e
-    (network-decides l f (a .args .k) (a .args .p) (free-at s (a .args .k) (a .args .p) e (a .pre .1)) (a .pre .2) (rw e at (h .neither .ensures)) (rw e at (g .before .suits .ensures)) (g .if1 .left) (d .parted .ensures) (b .before .if2 .left) (b .between .ensures))))  -- returns-3
+    (network-decides l f (a .args .k) (a .args .p) (free-at s (a .args .k) (a .args .p) e (a .pre .1)) (a .pre .2) (rw e at (h .neither .ensures)) (rw e at (g .before .suits .ensures)) (g .if1 .left) (meets-not _ _ (d .if2 .left)) (b .between .ensures))))  -- returns-3

@@ -6,16 +6,17 @@ use native.Mathlib.Omega.{arith}
 use borrow.Author.Needs.{needs}
 use lib.ListN.{getD}
 use Rattle.rules.proofs.SumLoop.{Summing, summing-start, summing-in, summing-out, summing-end}
+use Rattle.columns.specs.Columns.{senderRow, receiverRow, amountRow}
 use Rattle.partial.specs.Tests.{joins, between}
 use Rattle.partial.proofs.between.Statement.{statement}
 use Rattle.partial.proofs.between.Tie as tie
 
 abbrev Inv-loop : tie.InvT-loop
-Inv-loop sender receiver amounts messages k others sum₀ j₀ sum j =
-    Summing messages (λ i. joins k others (getD sender i 0) (getD receiver i 0)) (λ i. getD amounts i 0) 1000000000000000 j sum
+Inv-loop messages count k others sum₀ j₀ sum j =
+    Summing count (λ i. joins k others (getD (senderRow messages) i 0) (getD (receiverRow messages) i 0)) (λ i. getD (amountRow messages) i 0) 1000000000000000 j sum
 
 abbrev μ-loop : tie.MeasureT-loop
-μ-loop sender receiver amounts messages k others sum₀ j₀ sum j = messages - j
+μ-loop messages count k others sum₀ j₀ sum j = count - j
 
 pub between-spec : {M : Type 1} → statement M
 unfolding between
@@ -25,13 +26,16 @@ between-spec =
     Inv-loop
     μ-loop
     (λ c. summing-start)  -- loop-holds
-    (λ c. search needs)  -- mul-joins
-    (λ c. search needs)  -- element-copy-out-joins
-    (λ c. search needs)  -- mul-joins-2
-    (λ c. search needs)  -- element-copy-out-joins-2
+    (λ c. search needs)  -- mul-from
+    (λ c. search needs)  -- index-1-from
+    (λ c. search needs)  -- index-2-from
+    (λ c. search needs)  -- mul-to
+    (λ c. search needs)  -- index-1-to
+    (λ c. search needs)  -- index-2-to
     (λ c κs. let l = c .before .before in let p = l .before .before .pre in (p .from-task _ (l .loop-test .taken), p .to-task _ (l .loop-test .taken)))  -- joins-requires
     (λ c. search needs)  -- mul-sum
-    (λ c. search needs)  -- element-copy-out-sum
+    (λ c. search needs)  -- index-1-sum
+    (λ c. search needs)  -- index-2-sum
     (λ c.
     let l = c .before .before .before .before .before in
     let p = l .before .before .pre in

@@ -28,12 +28,14 @@ follow-spec =
     (λ c. search needs)  -- element-write-next-2
     (λ c. search needs)  -- mul-next-4
     (λ c. search needs)  -- element-copy-out-next-2
-    (λ c. fits (c .before .before .before .before .before .before) .enough-load)  -- sub-next-2
+    (λ c κs. search needs)  -- wide-requires-2
+    (λ c. omega (arith, c .wide2 .ensures .0, fits (c .before .before .before .before .before .before .before) .enough-load))  -- sub-next-2
     (λ c. search needs)  -- mul-next-5
     (λ c. search needs)  -- element-write-next-3
-    (λ c. fits (c .before .before .before .before .before .before .before) .enough-traffic)  -- sub-next-3
+    (λ c. fits (c .before .before .before .before .before .before .before .before) .enough-traffic)  -- sub-next-3
     (λ c.
-    let w = c .before .before in
+    let v = c .before in
+    let w = v .before .before in
     let r = w .before .before in
     let i = r .before .before .before in
-    rw (not-false (i .before .before .args .trial .allowed) (i .if1 .left), r .before .insert .ensures, r .remove .ensures, w .wide .ensures .0)))  -- returns-2
+    rw (not-false (i .before .before .args .trial .allowed) (i .if1 .left), r .before .insert .ensures, r .remove .ensures, w .wide .ensures .0, v .wide2 .ensures .0)))  -- returns-2

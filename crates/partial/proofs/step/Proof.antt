@@ -17,15 +17,17 @@ step-spec =
     (tie.spec
     (λ c. search needs)  -- mul-follow
     (λ c. below c .1)  -- element-copy-out-follow
-    (λ c. search needs)  -- mul-t21
-    (λ c. below (c .before) .1)  -- element-copy-out-t24
-    (λ c. search needs)  -- mul-t25
-    (λ c. below (c .before .before) .1)  -- element-copy-out-t28
+    (λ c. search needs)  -- mul-t15
+    (λ c. below (c .before) .1)  -- element-copy-out-t18
+    (λ c. search needs)  -- mul-t19
+    (λ c. below (c .before .before) .1)  -- element-copy-out-t22
     (λ c κs. let a = c .before .before .before in ((a .pre .0 .0, _, a .pre .0 .1, a .pre .0 .2, refl), a .pre .1, a .pre .2))  -- attempt-requires
     (λ c. record { fits = omega (arith, below (c .before .before .before .before)) })  -- mul-follow-2
-    (λ c. below (c .before .before .before .before) .0)  -- element-copy-out-follow-2
+    (λ c. search needs)  -- index-1-follow
+    (λ c. below (c .before .before .before .before) .0)  -- index-2-follow
     (λ c. record { fits = omega (arith, below (c .before .before .before .before .before)) })  -- mul-follow-3
-    (λ c. below (c .before .before .before .before .before) .0)  -- element-copy-out-follow-3
+    (λ c. search needs)  -- index-1-follow-2
+    (λ c. below (c .before .before .before .before .before) .0)  -- index-2-follow-2
     (λ c κs.
     let h = c .before .before in
     let a = h .before .before .before .before in

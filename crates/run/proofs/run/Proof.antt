@@ -16,7 +16,7 @@ run-spec =
     let a = b .pre .0 in
     let h = a .1 .rules .sound in
     let x = d .decide .ensures (a .0) (a .1) (start-deciding h (a .2)) (a .3) in
-    ((a .0, a .1, start-placing h (a .2) (b .args .places) (b .args .list .now) (b .pre .1) (d .decide .result) (x .0) (c .before .before .before .before .before .if1 .taken), x .1), omega (arith, b .pre .2, d .decide .kept .1 .1 .1 .1 .1 .1 .1 .1 .1 .1 .1 .1 .1 .1 .1 .1 .0)))  -- first-requires
+    ((a .0, a .1, start-placing h (a .2) (b .args .places) (b .args .list .now) (b .pre .1) (d .decide .result) (x .0) (c .before .before .before .before .before .if1 .taken), x .1), omega (arith, b .pre .2, d .decide .kept .1 .1 .1 .1 .1 .0)))  -- first-requires
     (λ c. search needs)  -- same-length
     (λ c. search needs)  -- same-length-2
     (λ c t l w k.
@@ -32,7 +32,7 @@ run-spec =
     let b = d .before .before .before .before .before .before in
     let a = b .pre .0 in
     let h = a .1 .rules .sound in
-    ((a .0, a .1, start-listing h (a .2) (b .args .places) (b .args .list .now) (b .pre .1), d .decide .ensures (a .0) (a .1) (start-deciding h (a .2)) (a .3) .1), omega (arith, b .pre .2, d .decide .kept .1 .1 .1 .1 .1 .1 .1 .1 .1 .1 .1 .1 .1 .1 .1 .1 .0)))  -- cover-requires
+    ((a .0, a .1, start-listing h (a .2) (b .args .places) (b .args .list .now) (b .pre .1), d .decide .ensures (a .0) (a .1) (start-deciding h (a .2)) (a .3) .1), omega (arith, b .pre .2, d .decide .kept .1 .1 .1 .1 .1 .0)))  -- cover-requires
     (λ c. search needs)  -- same-length-3
     (λ c. search needs)  -- same-length-4
     (λ c t l w k.

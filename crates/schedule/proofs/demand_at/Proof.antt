@@ -10,10 +10,12 @@ demand-at-spec =
     tie.close
     (tie.spec
     (λ c. search needs)  -- mul-wide
-    (λ c. search needs)  -- element-copy-out-wide
+    (λ c. search needs)  -- index-1-wide
+    (λ c. search needs)  -- index-2-wide
     (λ c κs. search needs)  -- wide-requires
     (λ c. search needs)  -- mul-interference
-    (λ c. search needs)  -- element-copy-out-interference
+    (λ c. search needs)  -- index-1-interference
+    (λ c. search needs)  -- index-2-interference
     (λ c κs. let p = c .before .before .before .pre in (small-shares (p .0) _ (p .1), p .2))  -- interference-requires
     (λ c.
     let p = c .before .before .before .before .pre in

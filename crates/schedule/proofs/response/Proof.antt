@@ -12,10 +12,10 @@ use Rattle.schedule.proofs.response.Statement.{statement}
 use Rattle.schedule.proofs.response.Tie as tie
 
 abbrev Inv-loop : tie.InvT-loop
-Inv-loop c t d priority higher n set i limit x₀ x = Repeating (tasksOf n c t d priority) (has set) i limit x
+Inv-loop timing n set i limit x₀ x = Repeating (tasksOf n timing) (has set) i limit x
 
 abbrev μ-loop : tie.MeasureT-loop
-μ-loop c t d priority higher n set i limit x₀ x = limit - x
+μ-loop timing n set i limit x₀ x = limit - x
 
 pub response-spec : {M : Type 1} → statement M
 response-spec =
@@ -24,10 +24,12 @@ response-spec =
     Inv-loop
     μ-loop
     (λ c. search needs)  -- mul-wide
-    (λ c. search needs)  -- element-copy-out-wide
+    (λ c. search needs)  -- index-1-wide
+    (λ c. search needs)  -- index-2-wide
     (λ c κs. search needs)  -- wide-requires
     (λ c. search needs)  -- mul-x
-    (λ c. search needs)  -- element-copy-out-x
+    (λ c. search needs)  -- index-1-x
+    (λ c. search needs)  -- index-2-x
     (λ c.
     let z = c .before .before .before in
     repeat-start (valid-of (z .pre .0)) (z .pre .1) (c .before .wide .ensures) (z .pre .0 .in-deadline (z .args .i) (z .pre .1)) refl)  -- loop-holds

@@ -32,10 +32,10 @@ use Rattle.seek.proofs.+explore+seek.{statement}
 use Rattle.seek.proofs.+explore+seek.Tie.{close}
 
 abbrev μ-explore : Measures 5 explore-kinds.ps ℕ
-μ-explore κs a = 2 * a .1 .1 .1 .1 .1 .1 .1 .1 .1 .1 .1 .1 .1 .1 .1 .0 .left
+μ-explore κs a = 2 * a .1 .1 .1 .1 .0 .left
 
 abbrev μ-seek : Measures 5 seek-kinds.ps ℕ
-μ-seek κs a = 2 * a .1 .1 .1 .1 .1 .1 .1 .1 .1 .1 .1 .1 .1 .1 .1 .0 .left + 1
+μ-seek κs a = 2 * a .1 .1 .1 .1 .0 .left + 1
 
 abbrev explore-at : ℕ → In 5 explore-kinds.ps
 explore-at t = and 5 explore-kinds.ps (is 5 explore-kinds.ps μ-explore t) explore.Pre
@@ -50,13 +50,13 @@ abbrev seek-below : ℕ → In 5 seek-kinds.ps
 seek-below t = and 5 seek-kinds.ps (falls 5 seek-kinds.ps _<_ μ-seek t) seek.Pre
 
 abbrev seek-Inv-loop : seek-lts.InvT-loop
-seek-Inv-loop work period deadline priority higher residence memory exclusions co sender receiver loads amounts guide sizes s listing list₀ places count limited notes₀ known₀ memo₀ on k first at₀ i₀ list notes known memo at i =
+seek-Inv-loop timing columns messages sizes s mode list₀ count notes₀ known₀ memo₀ on k first at₀ i₀ list notes known memo at i =
     (i ≤ sizes .processors) × (length list ≡ length list₀) × (length notes ≡ length notes₀)
-    × ((t : Table) → Lends t sizes work period deadline priority higher residence memory exclusions co sender receiver loads amounts → Begins t listing places s list₀ at₀ → Learnt t guide known₀ memo₀
-    → Seeking t listing places s k list₀ at₀ first (sizes .processors) i list at × Learnt t guide known memo)
+    × ((t : Table) → Lends t sizes timing columns messages → Begins t (mode .listing) (mode .places) s list₀ at₀ → Learnt t columns known₀ memo₀
+    → Seeking t (mode .listing) (mode .places) s k list₀ at₀ first (sizes .processors) i list at × Learnt t columns known memo)
 
 abbrev seek-μ-loop : seek-lts.MeasureT-loop
-seek-μ-loop work period deadline priority higher residence memory exclusions co sender receiver loads amounts guide sizes s listing list₀ places count limited notes₀ known₀ memo₀ on k first at₀ i₀ list notes known memo at i = sizes .processors - i
+seek-μ-loop timing columns messages sizes s mode list₀ count notes₀ known₀ memo₀ on k first at₀ i₀ list notes known memo at i = sizes .processors - i
 
 pub +explore+seek-spec : {M : Type 1} → statement M
 +explore+seek-spec = close μ-explore μ-seek (λ t. explore-lts.spec (
@@ -140,14 +140,14 @@ pub +explore+seek-spec : {M : Type 1} → statement M
       (a .0 .0, a .0 .1, a .0 .2 .fits, m .1 .knows),
       omega (arith, w .before .before .before .before .before .if2 .left),
       omega (arith, m .0 .ledger .room, m .0 .ledger .long),
-      omega (arith, a .1, g .gives-up .kept .1 .0, w .bound .kept .1 .1 .1 .1 .1 .1 .1 .1 .1 .1 .1 .1 .1 .1 .1 .1 .1 .1 .1 .1 .0),
+      omega (arith, a .1, g .gives-up .kept .1 .0, w .bound .kept .1 .1 .1 .1 .1 .1 .1 .1 .0),
     ))  -- pick-requires
     (λ c κs.
     let n = c .before .before .before in
     let w = n .before .before .before .before .before .before .before .before .before in
     let g = w .before .before .before .before .before .before .before .before .before .before in
     let a = g .before .before .before .before .before .pre .1 in
-    (omega (arith, a .0 .1 .rules .processors, a .0 .1 .rules .sound .processors .some), omega (arith, a .1, g .gives-up .kept .1 .0, w .bound .kept .1 .1 .1 .1 .1 .1 .1 .1 .1 .1 .1 .1 .1 .1 .1 .1 .1 .1 .1 .1 .0, n .pick .kept .1 .1 .1 .1 .1 .1 .1 .1 .1 .1 .1 .1 .1 .1 .1 .1 .1 .1 .1 .1 .0)))  -- offset-requires
+    (omega (arith, a .0 .1 .rules .processors, a .0 .1 .rules .sound .processors .some), omega (arith, a .1, g .gives-up .kept .1 .0, w .bound .kept .1 .1 .1 .1 .1 .1 .1 .1 .0, n .pick .kept .1 .1 .1 .1 .1 .1 .1 .1 .0)))  -- offset-requires
     (λ c. (omega arith, refl, refl, λ u l b k. (seeking-start b (c .before .before .before .before .before .before .pick .result) (c .before .before .offset .result) _ (c .before .before .offset .ensures), k)))  -- loop-holds
     (λ c κs.
     let o = c .before .before .before .before .before in
@@ -169,14 +169,14 @@ pub +explore+seek-spec : {M : Type 1} → statement M
         (u, l, seeking-begins (v .0) b, v .1),
         n .pick .ensures .0,
         c .before .before .before .before .turned .ensures .0,
-        omega (arith, a .1 .1, g .gives-up .kept .1 .0, w .bound .kept .1 .1 .1 .1 .1 .1 .1 .1 .1 .1 .1 .1 .1 .1 .1 .1 .1 .1 .1 .1 .0, n .pick .kept .1 .1 .1 .1 .1 .1 .1 .1 .1 .1 .1 .1 .1 .1 .1 .1 .1 .1 .1 .1 .0, i .before .before .before .offset .kept .1 .0, i .loop .inv .2),
+        omega (arith, a .1 .1, g .gives-up .kept .1 .0, w .bound .kept .1 .1 .1 .1 .1 .1 .1 .1 .0, n .pick .kept .1 .1 .1 .1 .1 .1 .1 .1 .0, i .before .before .before .offset .kept .1 .0, i .loop .inv .2),
       ),
     ))  -- explore-requires
-    (λ c. let i = c .before .before .before .before .before .before .before .before .before .before .before .before .before .before in c .before .before .before .before .before .before .explore .kept .1 .1 .1 .1 .1 .1 .1 .1 .1 .1 .1 .1 .1 .1 .1 .1 .1 .1 .1 .0 ∙ i .loop .inv .1 ∙ i .before .before .before .before .before .before .before .before .before .before .before .before .before .before .before .before .bound .kept .1 .1 .1 .1 .1 .1 .1 .1 .1 .1 .1 .1 .1 .1 .1 .1 .1 .0)  -- same-length-5
+    (λ c. let i = c .before .before .before .before .before .before .before .before .before .before .before .before .before .before in c .before .before .before .before .before .before .explore .kept .1 .1 .1 .1 .1 .1 .1 .1 .0 ∙ i .loop .inv .1 ∙ i .before .before .before .before .before .before .before .before .before .before .before .before .before .before .before .before .bound .kept .1 .1 .1 .1 .1 .1 .0)  -- same-length-5
     (λ c.
     let i = c .before .before .before .before .before .before .before .before .before .before .before .before .before .before in
     let n = i .before .before .before .before .before .before .before in
-    c .before .before .before .before .before .before .explore .kept .1 .1 .1 .1 .1 .1 .1 .1 .1 .1 .1 .1 .1 .1 .1 .1 .1 .1 .1 .1 .1 .1 .1 .0 ∙ i .loop .inv .2 ∙ i .before .before .before .offset .kept .1 .0 ∙ n .pick .kept .1 .1 .1 .1 .1 .1 .1 .1 .1 .1 .1 .1 .1 .1 .1 .1 .1 .1 .1 .1 .0 ∙ n .before .before .before .before .before .before .before .before .before .bound .kept .1 .1 .1 .1 .1 .1 .1 .1 .1 .1 .1 .1 .1 .1 .1 .1 .1 .1 .1 .1 .0 ∙ n .before .before .before .before .before .before .before .before .before .before .before .before .before .before .before .before .before .before .before .gives-up .kept .1 .0)  -- same-length-6
+    c .before .before .before .before .before .before .explore .kept .1 .1 .1 .1 .1 .1 .1 .1 .1 .1 .0 ∙ i .loop .inv .2 ∙ i .before .before .before .offset .kept .1 .0 ∙ n .pick .kept .1 .1 .1 .1 .1 .1 .1 .1 .0 ∙ n .before .before .before .before .before .before .before .before .before .bound .kept .1 .1 .1 .1 .1 .1 .1 .1 .0 ∙ n .before .before .before .before .before .before .before .before .before .before .before .before .before .before .before .before .before .before .before .gives-up .kept .1 .0)  -- same-length-6
     (λ c u l b k.
     let x = c .before .before .before .before .before .before in
     let i = x .before .before .before .before .before .before .before .before in
@@ -194,8 +194,8 @@ pub +explore+seek-spec : {M : Type 1} → statement M
     let i = x .before .before .before .before .before .before .before .before in
     let r = c .before .before .before .before .before .before .before .before .before .before .before .turned .ensures in (
       omega (arith, c .before .before .before .before .before .before .before .before .before .before .before .before .if4 .taken),
-      x .explore .kept .1 .1 .1 .1 .1 .1 .1 .1 .1 .1 .1 .1 .1 .1 .1 .1 .1 .1 .1 .0 ∙ i .loop .inv .1,
-      x .explore .kept .1 .1 .1 .1 .1 .1 .1 .1 .1 .1 .1 .1 .1 .1 .1 .1 .1 .1 .1 .1 .1 .1 .1 .0 ∙ i .loop .inv .2,
+      x .explore .kept .1 .1 .1 .1 .1 .1 .1 .1 .0 ∙ i .loop .inv .1,
+      x .explore .kept .1 .1 .1 .1 .1 .1 .1 .1 .1 .1 .0 ∙ i .loop .inv .2,
       λ u l b k. let v = i .loop .inv .3 u l b k in
           let e = x .explore .ensures u l (seeking-begins (v .0) b) (v .1) in
           (seeking-next (v .0) (x .explore .result) (e .0) (r .0) (r .1) (not-false (x .explore .result .none) (c .if5 .left)), e .1),
@@ -206,12 +206,12 @@ pub +explore+seek-spec : {M : Type 1} → statement M
     let w = n .before .before .before .before .before .before .before .before .before in
     let g = w .before .before .before .before .before .before .before .before .before .before in
     let a = g .before .before .before .before .before .pre .1 in
-    omega (arith, open-low (a .0 .1) (a .0 .2 .fits) _ (n .pick .ensures .0), a .1, g .gives-up .kept .1 .0, w .bound .kept .1 .1 .1 .1 .1 .1 .1 .1 .1 .1 .1 .1 .1 .1 .1 .1 .1 .1 .1 .1 .0, n .pick .kept .1 .1 .1 .1 .1 .1 .1 .1 .1 .1 .1 .1 .1 .1 .1 .1 .1 .1 .1 .1 .0, i .before .before .before .offset .kept .1 .0, i .loop .inv .2))  -- blame-requires
-    (λ c. let i = c .before .before .before .before .before .before in i .loop .inv .1 ∙ i .before .before .before .before .before .before .before .before .before .before .before .before .before .before .before .before .bound .kept .1 .1 .1 .1 .1 .1 .1 .1 .1 .1 .1 .1 .1 .1 .1 .1 .1 .0)  -- same-length-7
+    omega (arith, open-low (a .0 .1) (a .0 .2 .fits) _ (n .pick .ensures .0), a .1, g .gives-up .kept .1 .0, w .bound .kept .1 .1 .1 .1 .1 .1 .1 .1 .0, n .pick .kept .1 .1 .1 .1 .1 .1 .1 .1 .0, i .before .before .before .offset .kept .1 .0, i .loop .inv .2))  -- blame-requires
+    (λ c. let i = c .before .before .before .before .before .before in i .loop .inv .1 ∙ i .before .before .before .before .before .before .before .before .before .before .before .before .before .before .before .before .bound .kept .1 .1 .1 .1 .1 .1 .0)  -- same-length-7
     (λ c.
     let i = c .before .before .before .before .before .before in
     let n = i .before .before .before .before .before .before .before in
-    c .before .before .blame .kept .0 ∙ i .loop .inv .2 ∙ i .before .before .before .offset .kept .1 .0 ∙ n .pick .kept .1 .1 .1 .1 .1 .1 .1 .1 .1 .1 .1 .1 .1 .1 .1 .1 .1 .1 .1 .1 .0 ∙ n .before .before .before .before .before .before .before .before .before .bound .kept .1 .1 .1 .1 .1 .1 .1 .1 .1 .1 .1 .1 .1 .1 .1 .1 .1 .1 .1 .1 .0 ∙ n .before .before .before .before .before .before .before .before .before .before .before .before .before .before .before .before .before .before .before .gives-up .kept .1 .0)  -- same-length-8
+    c .before .before .blame .kept .0 ∙ i .loop .inv .2 ∙ i .before .before .before .offset .kept .1 .0 ∙ n .pick .kept .1 .1 .1 .1 .1 .1 .1 .1 .0 ∙ n .before .before .before .before .before .before .before .before .before .bound .kept .1 .1 .1 .1 .1 .1 .1 .1 .0 ∙ n .before .before .before .before .before .before .before .before .before .before .before .before .before .before .before .before .before .before .before .gives-up .kept .1 .0)  -- same-length-8
     (λ c u l b k.
     let i = c .before .before .before .before .before .before in
     let n = i .before .before .before .before .before .before .before in

@@ -11,10 +11,10 @@ use Rattle.twin.proofs.twin.Statement.{statement}
 use Rattle.twin.proofs.twin.Tie as tie
 
 abbrev Inv-loop : tie.InvT-loop
-Inv-loop residence memory loads p s q₀ q = (q ≤ p) × ((t : Table) → Asks t residence memory loads s p → (j : ℕ) → j < q → Interchangeable t s j p → ⊥)
+Inv-loop columns p s q₀ q = (q ≤ p) × ((t : Table) → Asks t columns s p → (j : ℕ) → j < q → Interchangeable t s j p → ⊥)
 
 abbrev μ-loop : tie.MeasureT-loop
-μ-loop residence memory loads p s q₀ q = p - q
+μ-loop columns p s q₀ q = p - q
 
 pub twin-spec : {M : Type 1} → statement M
 twin-spec =

@@ -5,20 +5,20 @@ use native.Mathlib.Omega.{arith}
 use Rattle.mask.proofs.Laws.{below-has}
 use Rattle.mask.proofs.Visit.{visit-member, visit-less}
 use Rattle.twin.proofs.Taking.{Taking, taking-start, taking-end, taking-over, taking-next}
-use Rattle.twin.proofs.memory_fits.Statement.{statement}
-use Rattle.twin.proofs.memory_fits.Tie as tie
+use Rattle.twin.proofs.ample.Statement.{statement}
+use Rattle.twin.proofs.ample.Tie as tie
 
 abbrev Inv-loop : tie.InvT-loop
-Inv-loop memory set room free₀ rest₀ free rest = Taking memory set room free rest
+Inv-loop row set room free₀ rest₀ free rest = Taking row set room free rest
 
 abbrev μ-loop : tie.MeasureT-loop
-μ-loop memory set room free₀ rest₀ free rest = rest
+μ-loop row set room free₀ rest₀ free rest = rest
 
 low : (c : tie.After-lowest Inv-loop μ-loop) → c .lowest .result < 24
 low c = below-has 24 _ (c .before .before .before .pre) _ (visit-member (c .before .before .loop .inv .visit) (search needs) (c .lowest .ensures))
 
-pub memory-fits-spec : {M : Type 1} → statement M
-memory-fits-spec =
+pub ample-spec : {M : Type 1} → statement M
+ample-spec =
     tie.close
     (tie.spec
     Inv-loop
