@@ -29,6 +29,7 @@ use columns::SENDER;
 use known::Known;
 use ledger::Mode;
 use memo::Memo;
+use numbers::wide;
 use packing::Packed;
 use partial::Sizes;
 use partial::State;
@@ -38,13 +39,6 @@ use schedule::Timing;
 pub struct Bounded {
     pub hopeless: bool,
     pub count: usize,
-}
-
-// x as a wider number.
-fn wide(x: u32) -> u64
-    ensures { λ r. ⌜ (r ≡ x) × (r < 4294967296) ⌝ }
-{
-    x as u64
 }
 
 // The lower of two numbers.

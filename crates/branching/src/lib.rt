@@ -14,17 +14,11 @@ use columns::Columns;
 use columns::Messages;
 use known::Known;
 use ledger::Mode;
+use numbers::wide;
 use partial::Site;
 use partial::Sizes;
 use partial::State;
 use schedule::Timing;
-
-// x as a wider number.
-fn wide(x: u32) -> u64
-    ensures { λ r. ⌜ r < 4294967296 ⌝ }
-{
-    x as u64
-}
 
 // The lower, the sooner task k is placed: few choices, which count squared, and a large weight; and a little noise, so that a restart chooses anew.
 fn score(base: u32, choices: u64, k: usize, notes: &mut [u32]) -> u64

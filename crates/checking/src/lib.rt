@@ -8,6 +8,7 @@ ghost use Rattle.rules.specs.Placement.{elsewhere, apart};
 ghost use Rattle.rules.specs.Rules.{crosses, amountOf, traffic, concerned, broken, checkRule, firstBroken};
 ghost use Rattle.rules.specs.Sets.{standing, meets, twoOf, outsideOf, memoryOf, Works, loadOf, missed};
 use load::Load;
+use numbers::wide;
 use rules::Check;
 use rules::Rule;
 use table::Table;
@@ -77,13 +78,6 @@ fn stands_outside(sets: [u32; 8], m: usize, k: usize, residence: u32) -> bool
         p += 1;
     }
     false
-}
-
-// x as a wider number.
-fn wide(x: u32) -> u64
-    ensures { λ r. ⌜ (r ≡ x) × (r < 4294967296) ⌝ }
-{
-    x as u64
 }
 
 // The memory of the tasks in the set.

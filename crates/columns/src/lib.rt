@@ -9,6 +9,7 @@ ghost use Rattle.table.specs.Sound.{Sound, SoundGroups};
 ghost use Rattle.rules.specs.Rules.{amountOf};
 ghost use Rattle.columns.specs.Columns.{loadsOf, besideOf, neighboursOf, amountsOf, columnsOf, messagesOf};
 use load::Load;
+use numbers::wide;
 use table::Groups;
 use table::Table;
 
@@ -102,13 +103,6 @@ fn neighbours_of(groups: Groups, n: usize) -> [u32; 24]
         k += 1;
     }
     neighbours
-}
-
-// x as a wider number.
-fn wide(x: u32) -> u64
-    ensures { λ r. ⌜ r ≡ x ⌝ }
-{
-    x as u64
 }
 
 // What message j is to the network, amount × H / T; 0 beyond the messages.

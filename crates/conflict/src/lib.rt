@@ -39,7 +39,7 @@ pub enum Answer {
 }
 
 // Whether the set is late, and stays so with some task left out.
-pub fn classify(timing: &Timing, n: usize, set: u32) -> Finding
+fn classify(timing: &Timing, n: usize, set: u32) -> Finding
     requires { ⌜ InLimits n (now timing) set ⌝ }
     ensures { λ r. ⌜ Checked (tasksOf n (now (timing .entry))) set r ⌝ }
 {

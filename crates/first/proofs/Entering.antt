@@ -15,8 +15,8 @@ use Rattle.ledger.proofs.Growth.{grows-trans}
 use Rattle.partial.specs.declared.State.{State}
 use Rattle.region.specs.Region.{Within, Refuted}
 use Rattle.region.specs.Begins.{Begins, Ready}
-use Rattle.seek.specs.declared.Entered.{Entered}
-use Rattle.seek.specs.Seek.{EntersAs, EnteredAs}
+use Rattle.entering.specs.declared.Entered.{Entered}
+use Rattle.entering.specs.Entering.{EntersAs, EnteredAs}
 use Rattle.deciding.specs.declared.Covering.{Covering}
 use Rattle.deciding.specs.Deciding.{DecidedAs, CoveringAs}
 

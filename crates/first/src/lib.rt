@@ -62,7 +62,7 @@ fn decide_on<'a>(
         places: 0,
         limited: true,
     };
-    let entered = seek::enter(
+    let entered = entering::enter(
         timing,
         columns,
         messages,
@@ -108,7 +108,7 @@ fn pass_over<'a>(
         places,
         limited: false,
     };
-    let entered = seek::enter(
+    let entered = entering::enter(
         timing,
         columns,
         messages,

@@ -16,18 +16,12 @@ use columns::RECEIVER;
 use columns::RESIDENCE;
 use columns::SENDER;
 use columns::WEIGHT;
+use numbers::wide;
 use partial::Sizes;
 use partial::State;
 use schedule::DEADLINE;
 use schedule::Timing;
 use schedule::WORK;
-
-// x as a wider number.
-fn wide(x: u32) -> u64
-    ensures { λ r. ⌜ (r ≡ x) × (r < 4294967296) ⌝ }
-{
-    x as u64
-}
 
 // x as long as it is below 2^40, as every load and every room is.
 fn short(x: u64) -> u64

@@ -333,3 +333,9 @@ trailing w m p h = lowest-one (trailing-lowest w m p h) (lowest-is w m p h)
 -- 1 << k at the width w
 pub one-shl : (k w : ℕ) → k < w → (1 * 2 ^ k) % 2 ^ w ≡ 2 ^ k
 one-shl k w h = shl-exact 1 k w (omega arith) (omega arith) ∙ one-mul (2 ^ k)
+
+-- the n lowest digits
+pub first-mask : (n : ℕ) → 2 ^ n - 1 ≡ maskOf n (λ j. true)
+unfolding sumTo
+first-mask zero = refl
+first-mask (suc n) = omega (arith, first-mask n, pow-suc 2 n, pow-pos n)

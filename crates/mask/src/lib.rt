@@ -1,8 +1,9 @@
 // Sets of numbers below 32 as masks: bit k stands for the number k.
 ghost use mathlib.Core.Path.{_≡_};
+ghost use mathlib.Core.Bool.{true};
 ghost use Prim.Native.Nat.{_<_};
 ghost use lib.Dec.{leb};
-ghost use Rattle.mask.specs.Mask.{has, within, below, size, insertOf, removeOf, lowestOf};
+ghost use Rattle.mask.specs.Mask.{has, within, below, size, insertOf, removeOf, lowestOf, maskOf};
 
 // Whether k is in the set.
 pub fn has(mask: u32, k: usize) -> bool
@@ -56,4 +57,12 @@ pub fn lowest(mask: u32) -> usize
     ensures { λ r. ⌜ r ≡ lowestOf 32 mask ⌝ }
 {
     u32::trailing_zeros(mask) as usize
+}
+
+// The numbers below n.
+pub fn all_below(n: usize) -> u32
+    requires { ⌜ n < 32 ⌝ }
+    ensures { λ r. ⌜ r ≡ maskOf n (λ j. true) ⌝ }
+{
+    (1 << n) - 1
 }

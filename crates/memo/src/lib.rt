@@ -6,6 +6,7 @@ ghost use Prim.Native.Nat.{ℕ, _≤_, _<_};
 ghost use lib.Dec.{T};
 ghost use Rattle.table.specs.declared.Table.{Table};
 ghost use Rattle.memo.specs.Memo.{Capped, Memo, Key};
+use numbers::wide;
 
 // 2,048 bounds, each with what it was worked out from.
 pub type Memo = [u64; 12288];
@@ -14,13 +15,6 @@ pub type Memo = [u64; 12288];
 pub struct Recalled {
     pub hit: bool,
     pub top: u64,
-}
-
-// x as a wider number.
-fn wide(x: u32) -> u64
-    ensures { λ r. ⌜ (r ≡ x) × (r < 4294967296) ⌝ }
-{
-    x as u64
 }
 
 // The entry for these tasks, candidates, row and memory left. Any entry would do: no answer rests on it.

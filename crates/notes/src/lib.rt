@@ -3,13 +3,7 @@ ghost use mathlib.Core.Path.{_≡_};
 ghost use Prim.Native.Nat.{_<_, _≤_};
 ghost use lib.ListN.{length, getD, set};
 ghost use Rattle.notes.specs.Notes.{heavier};
-
-// x as a wider number.
-fn wide(x: u32) -> u64
-    ensures { λ r. ⌜ r < 4294967296 ⌝ }
-{
-    x as u64
-}
+use numbers::wide;
 
 // A failure weight after one failure more. It stays where it has grown large.
 fn heavier(weight: u32) -> u32

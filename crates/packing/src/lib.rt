@@ -13,19 +13,13 @@ use columns::MEMORY;
 use columns::ORDER;
 use known::Known;
 use ledger::Mode;
+use numbers::wide;
 use schedule::Timing;
 
 // No less than the most weight that a processor can take, and how many conflicts are listed then.
 pub struct Packed {
     pub most: u64,
     pub count: usize,
-}
-
-// x as a wider number.
-fn wide(x: u32) -> u64
-    ensures { λ r. ⌜ (r ≡ x) × (r < 4294967296) ⌝ }
-{
-    x as u64
 }
 
 // Whether task k fits what is left of memory (space) and load (spare), and none of the tasks there is excluded from it.

@@ -1,4 +1,4 @@
--- Masks that the tests of a partial placement use: the first n numbers, a complement, what two sets share. Assumes nothing.
+-- Masks that the tests of a partial placement use: a complement, what two sets share. Assumes nothing.
 use mathlib.Core.Path.{_≡_, refl, ap, _∙_}
 use mathlib.Core.Bool.{Bool, true, false, not, _||_, and-true}
 use Prim.Native.Nat.{ℕ, zero, suc, _+_, _-_, _*_, _/_, _%_, _^_, _≤_, _<_}
@@ -11,15 +11,9 @@ use lib.Pow.{pow-mono, pow-pos}
 use Rattle.finite.specs.Finite.{only, sumTo}
 use Rattle.mask.specs.Mask.{bit, has, maskOf}
 use Rattle.mask.proofs.Tests.{and-both, and-left, and-right}
-use Rattle.mask.proofs.Laws.{ext, has-and, has-mask, has-of, has-or, has-zero, bit-only, mask-lt, some-member}
+use Rattle.mask.proofs.Laws.{ext, has-and, has-mask, has-of, has-or, has-zero, bit-only, mask-lt, some-member, first-mask}
 use Rattle.rules.specs.Sets.{meets}
 use Rattle.partial.specs.Tests.{neither}
-
--- the n lowest digits
-pub first-mask : (n : ℕ) → 2 ^ n - 1 ≡ maskOf n (λ j. true)
-unfolding sumTo
-first-mask zero = refl
-first-mask (suc n) = omega (arith, first-mask n, pow-suc 2 n, pow-pos n)
 
 -- the complement among w digits
 pub has-not : (w x k : ℕ) → x < 2 ^ w → k < w → has (2 ^ w - 1 - x) k ≡ not (has x k)

@@ -70,14 +70,3 @@ pub record Stepped (t : Table) (s : State) (k p : ℕ) (r : State) : Type 0 wher
 abbrev pub StepOf : Table → State → ℕ → ℕ → Bool → State → Type 0
 StepOf t s k p false next = Keeps t (andTask (standing (s .on)) k p) → ⊥
 StepOf t s k p true next = Stepped t s k p next
-
--- nothing is placed
-pub record Started (t : Table) (r : State) : Type 0 where
-  pub fits : Fits t r
-  pub nothing : (k p : ℕ) → T (standing (r .on) k p) → ⊥
-
--- the bytes q name for each task the processor on which it stands
-pub record Names (t : Table) (sets q : List ℕ) : Type 0 where
-  pub long : length q ≡ 24
-  pub known : (k : ℕ) → k < t .tasks .count → getD q k 0 < t .processors .count
-  pub there : (k : ℕ) → k < t .tasks .count → T (standing sets k (getD q k 0))

@@ -5,7 +5,7 @@ use mathlib.Core.Path.{_≡_}
 use Prim.Native.Nat.{ℕ, _+_, _-_, _≤_, _<_}
 use lib.Dec.{eqb, leb}
 use lib.ListN.{getD, set}
-use Rattle.finite.specs.Finite.{only, sumTo, firstBelow}
+use Rattle.finite.specs.Finite.{only, sumTo}
 use Rattle.mask.specs.Mask.{has, insertOf, removeOf, maskOf}
 use Rattle.table.specs.declared.Table.{Table}
 use Rattle.rules.specs.Placement.{andTask}
@@ -70,7 +70,3 @@ pub record Enough (s : State) (p memory load added : ℕ) : Type 0 where
 -- the state with the task where a trial allowed it, else the state as it was
 abbrev pub stepAfter : State → ℕ → ℕ → ℕ → ℕ → Trial → Stepping
 stepAfter s k p memory load trial = record { allowed = trial .allowed; next = cond (trial .allowed) (withTask s k p memory load (trial .added)) s }
-
--- the processor of task k, the lowest that has it
-abbrev pub processorOf : List ℕ → ℕ → ℕ → ℕ
-processorOf sets m k = firstBelow m (standing sets k)

@@ -2,17 +2,15 @@
 ghost use mathlib.Core.Path.{_≡_};
 ghost use Prim.Native.Nat.{_<_, _≤_};
 ghost use lib.Dec.{T};
-ghost use mathlib.Core.Bool.{true};
-ghost use Rattle.mask.specs.Mask.{has, maskOf};
+ghost use Rattle.mask.specs.Mask.{has};
 ghost use Rattle.table.specs.declared.Table.{Table};
-ghost use Rattle.table.specs.Sound.{Sound};
 ghost use Rattle.schedule.specs.Arrays.{Says};
 ghost use Rattle.rules.specs.Placement.{andTask};
 ghost use Rattle.rules.specs.Rules.{Keeps};
 ghost use Rattle.rules.specs.Sets.{standing};
 ghost use Rattle.partial.specs.declared.State.{State};
-ghost use Rattle.partial.specs.Partial.{Lent, siteOf, Whole, Fits, StepOf, Started, Names};
-ghost use Rattle.partial.specs.Tests.{neither, suits, joins, between, SmallMessages, TrialOf, Enough, stepAfter, processorOf};
+ghost use Rattle.partial.specs.Partial.{Lent, siteOf, Fits, StepOf};
+ghost use Rattle.partial.specs.Tests.{neither, suits, joins, between, SmallMessages, TrialOf, Enough, stepAfter};
 use columns::AMOUNT;
 use columns::Columns;
 use columns::EXCLUSIONS;
@@ -23,7 +21,7 @@ use columns::PARTNERS;
 use columns::RECEIVER;
 use columns::RESIDENCE;
 use columns::SENDER;
-use table::Table;
+use numbers::wide;
 
 // How many there are of each.
 pub struct Sizes {
@@ -50,27 +48,12 @@ pub struct Site {
     pub traffic: u64,
 }
 
-// x as a wider number.
-fn wide(x: u32) -> u64
-    ensures { λ r. ⌜ (r ≡ x) × (r < 4294967296) ⌝ }
-{
-    x as u64
-}
-
-// The first n tasks.
-fn first_tasks(n: usize) -> u32
-    requires { ⌜ n ≤ 24 ⌝ }
-    ensures { λ r. ⌜ r ≡ maskOf n (λ j. true) ⌝ }
-{
-    (1 << n) - 1
-}
-
 // The tasks below n that are in neither set.
 fn neither(n: usize, a: u32, b: u32) -> u32
     requires { ⌜ n ≤ 24 ⌝ }
     ensures { λ r. ⌜ r ≡ neither n a b ⌝ }
 {
-    first_tasks(n) & !(a | b)
+    mask::all_below(n) & !(a | b)
 }
 
 // Whether processor p is one of task k's, has its memory and load left, and has no task that may not stand beside it.
@@ -233,61 +216,4 @@ pub fn step<'a>(
     };
     let trial = attempt(columns, messages, sizes, site, k, p);
     follow(s, k, p, columns[MEMORY][k], columns[LOAD][k], trial)
-}
-
-// Nothing is placed yet.
-pub fn start(t: Table) -> State
-    requires { ⌜ Sound t ⌝ }
-    ensures { λ r. ⌜ Started t r ⌝ }
-{
-    let processors = t.processors;
-    let tasks = t.tasks;
-    let m = processors.count;
-    let h = t.hyperperiod;
-    let mut memory = [0u64; 8];
-    let mut load = [0u64; 8];
-    let mut p: usize = 0;
-    while p < m {
-        memory[p] = wide(processors.memory[p]);
-        load[p] = wide(processors.limit[p]) * h / 1000;
-        p += 1;
-    }
-    State {
-        on: [0; 8],
-        left: first_tasks(tasks.count),
-        memory,
-        load,
-        traffic: wide(t.capacity) * h,
-    }
-}
-
-// The lowest of the m processors that has task k.
-fn processor_of(sets: [u32; 8], m: usize, k: usize) -> u8
-    requires { ⌜ (m ≤ 8) × (k < 32) ⌝ }
-    ensures { λ r. ⌜ r ≡ processorOf sets m k ⌝ }
-{
-    let mut p: usize = 0;
-    while p < m {
-        if mask::has(sets[p], k) {
-            return p as u8;
-        }
-        p += 1;
-    }
-    m as u8
-}
-
-// The processor of each task of a whole placement, 0 beyond the tasks.
-pub fn placement_of(sizes: Sizes, sets: [u32; 8]) -> [u8; 24]
-    requires { ⌜ ((t : Table) × (sizes .tasks ≡ t .tasks .count) × (sizes .processors ≡ t .processors .count) × Sound t × Whole t sets) ⌝ }
-    ensures { λ r. ⌜ ((t : Table) → sizes .tasks ≡ t .tasks .count → sizes .processors ≡ t .processors .count → Whole t sets → Names t sets r) ⌝ }
-{
-    let n = sizes.tasks;
-    let m = sizes.processors;
-    let mut bytes = [0u8; 24];
-    let mut k: usize = 0;
-    while k < n {
-        bytes[k] = processor_of(sets, m, k);
-        k += 1;
-    }
-    bytes
 }

@@ -5,6 +5,7 @@ ghost use Rattle.mask.specs.Mask.{has};
 ghost use Rattle.schedule.specs.Periodic.{LateSet};
 ghost use Rattle.schedule.specs.Response.{ceil, demand, response};
 ghost use Rattle.schedule.specs.Arrays.{tasksOf, higherThan, higherOf, sharesOf, SmallShares, InLimits, Says};
+use numbers::wide;
 
 // The rows: C, T, D, the priority, and the tasks of larger priority.
 pub type Timing = [[u32; 24]; 5];
@@ -48,13 +49,6 @@ pub fn higher(priority: &[u32; 24], n: usize) -> [u32; 24]
         i += 1;
     }
     rows
-}
-
-// x as a wider number.
-fn wide(x: u32) -> u64
-    ensures { λ r. ⌜ r ≡ x ⌝ }
-{
-    x as u64
 }
 
 // x / t, rounded up.

@@ -23,7 +23,8 @@ use Rattle.goal.specs.Goal.{headOf, markOf, Listed}
 use Rattle.goal.proofs.First.{Before, earlier-before, before-earlier, found-head, none-before, none-head}
 use Rattle.ledger.specs.Ledger.{masksIn}
 use Rattle.ledger.proofs.Masks.{masks-long, listing-grown}
-use Rattle.partial.specs.Partial.{Whole, Names}
+use Rattle.partial.specs.Partial.{Whole}
+use Rattle.endpoints.specs.Endpoints.{Names}
 use Rattle.region.specs.Region.{Witness, Settled, Sooner}
 use Rattle.region.proofs.Filling.{placed-at, placed-is, whole-placement}
 use Rattle.search.specs.declared.Answer.{Answer}

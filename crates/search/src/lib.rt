@@ -31,7 +31,7 @@ fn put_head(table: Table, found: bool, on: [u32; 8], buffer: &mut [u8])
             processors: processors.count,
             messages: 0,
         };
-        let placement = partial::placement_of(sizes, on);
+        let placement = endpoints::placement_of(sizes, on);
         answer::put_found(buffer, &placement, tasks.count);
     } else {
         answer::put_none(buffer, tasks.count);

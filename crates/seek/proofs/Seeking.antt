@@ -26,9 +26,10 @@ use Rattle.twin.specs.Twin.{LowestTwin}
 use Rattle.twin.proofs.Swap.{swap-refuted}
 use Rattle.bound.specs.declared.Bounded.{Bounded}
 use Rattle.bound.specs.Bound.{BoundedAs}
-use Rattle.seek.specs.declared.Entered.{Entered}
+use Rattle.entering.specs.declared.Entered.{Entered}
 use Rattle.seek.specs.declared.Sought.{Sought}
-use Rattle.seek.specs.Seek.{EntersAs, EnteredAs, SoughtIn, Passed, ExploredAs}
+use Rattle.entering.specs.Entering.{EntersAs, EnteredAs}
+use Rattle.seek.specs.Seek.{SoughtIn, Passed, ExploredAs}
 
 module _ {t : Table} {listing limited : Bool} {places : ℕ} {s : State} {list : List ℕ} {count : ℕ} (b : Begins t listing places s list count) where
   -- the search gives up

@@ -10,22 +10,9 @@ use Rattle.rules.specs.Sets.{standing}
 use Rattle.timing.specs.Timing.{tasksIn}
 use Rattle.ledger.specs.Ledger.{Ledger, Grows, Bad, Clear}
 use Rattle.partial.specs.declared.State.{State}
-use Rattle.partial.specs.Partial.{Stepped}
 use Rattle.region.specs.Region.{Within, Refuted, Met, Witness}
-use Rattle.region.specs.Begins.{Begins}
 use Rattle.twin.specs.Twin.{Interchangeable}
-use Rattle.seek.specs.declared.Entered.{Entered}
 use Rattle.seek.specs.declared.Sought.{Sought}
-
--- the answer on task k on processor p: no placement there, or a state to go on from
-abbrev pub EntersAs : Bool → Table → Bool → ℕ → State → ℕ → ℕ → List ℕ → ℕ → State → Type 0
-EntersAs false t listing places s k p list count next = Refuted t (Bad (tasksIn t) listing list count) (Within (andTask (standing (s .on)) k p))
-EntersAs true t listing places s k p list count next = Stepped t s k p next × Begins t listing places next list count
-
-pub record EnteredAs (t : Table) (listing : Bool) (places : ℕ) (s : State) (k p : ℕ) (old : List ℕ) (before : ℕ) (new : List ℕ) (r : Entered) : Type 0 where
-  pub ledger : Ledger (tasksIn t) places new (r .count)
-  pub grows : Grows (Met t (Within (andTask (standing (s .on)) k p))) old before new (r .count)
-  pub answer : EntersAs (r .passes) t listing places s k p new (r .count) (r .next)
 
 -- the answer on the region of `on`: a placement all of whose sets may stand, or none, as `None` says of the list;
 -- a search that is not limited answers one of them

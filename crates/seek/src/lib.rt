@@ -10,10 +10,8 @@ ghost use Rattle.table.specs.declared.Table.{Table};
 ghost use Rattle.rules.specs.Sets.{standing};
 ghost use Rattle.region.specs.Lends.{Lends};
 ghost use Rattle.region.specs.Begins.{Begins};
-ghost use Rattle.timing.specs.Timing.{tasksIn};
-ghost use Rattle.known.specs.Known.{Knows};
 ghost use Rattle.memo.specs.Memo.{Learnt};
-ghost use Rattle.seek.specs.Seek.{EnteredAs, ExploredAs, SoughtIn};
+ghost use Rattle.seek.specs.Seek.{ExploredAs, SoughtIn};
 use columns::Columns;
 use columns::Messages;
 use known::Known;
@@ -22,13 +20,6 @@ use memo::Memo;
 use partial::Sizes;
 use partial::State;
 use schedule::Timing;
-
-// A task on a processor: whether to go on from there, with which state, and how many conflicts are listed then.
-pub struct Entered {
-    pub passes: bool,
-    pub next: State,
-    pub count: usize,
-}
 
 // Whether a placement of a region was found, or none is known to be there; neither where the search gave up.
 // The tasks on each processor in the one that was found, and how many conflicts are listed then.
@@ -75,41 +66,6 @@ fn turned(first: usize, i: usize, m: usize) -> usize
     p - m
 }
 
-// The open task k on processor p: tested by the rules, then for lateness.
-pub fn enter<'a>(
-    timing: &'a Timing,
-    columns: &'a Columns,
-    messages: &'a Messages,
-    sizes: Sizes,
-    s: State,
-    k: usize,
-    p: usize,
-    mode: Mode,
-    list: &mut [u8],
-    count: usize,
-    known: &mut Known,
-) -> Entered
-    requires { ⌜ ((t : Table) × Lends t sizes (now timing) (now columns) (now messages) × Begins t (mode .listing) (mode .places) s (now list) count × Knows (tasksIn t) (now known)) × T (has (s .left) k) × (p < sizes .processors) ⌝ }
-    ensures { λ r. ⌜ ((t : Table) → Lends t sizes (now (timing .entry)) (now (columns .entry)) (now (messages .entry))
-        → Begins t (mode .listing) (mode .places) s (now (list .entry)) count → Knows (tasksIn t) (now (known .entry)) → EnteredAs t (mode .listing) (mode .places) s k p (now (list .entry)) count (now (list .exit)) r × Knows (tasksIn t) (now (known .exit))) ⌝ }
-{
-    let step = partial::step(columns, messages, sizes, s, k, p);
-    let next = step.next;
-    if !step.allowed {
-        return Entered {
-            passes: false,
-            next,
-            count,
-        };
-    }
-    let tested = ledger::test(timing, sizes.tasks, next.on[p], mode, list, count, known);
-    Entered {
-        passes: !tested.bad,
-        next,
-        count: tested.count,
-    }
-}
-
 // The region below the open task k on processor p. It is passed over where a lower processor can stand in for p.
 fn explore<'a>(
     timing: &'a Timing,
@@ -139,7 +95,7 @@ fn explore<'a>(
             count,
         };
     }
-    let entered = enter(
+    let entered = entering::enter(
         timing,
         columns,
         messages,

@@ -12,14 +12,8 @@ use columns::Columns;
 use columns::LOAD;
 use columns::MEMORY;
 use columns::RESIDENCE;
+use numbers::wide;
 use partial::State;
-
-// x as a wider number.
-fn wide(x: u32) -> u64
-    ensures { λ r. ⌜ r ≡ x ⌝ }
-{
-    x as u64
-}
 
 // The lesser of two rooms.
 fn lesser(a: u64, b: u64) -> u64

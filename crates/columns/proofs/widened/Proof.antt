@@ -30,7 +30,7 @@ widened-spec =
     (λ c. search needs)  -- array-write-wider
     (λ c. search needs)  -- add-j
     (λ c. search needs)  -- loop-less
-    (λ c. let l = c .before in fill-put (l .before .loop .inv) (l .loop-test .taken) (rw (lt-ltb _ _ (l .loop-test .taken)) (c .wide .ensures)))  -- loop-again
+    (λ c. let l = c .before in fill-put (l .before .loop .inv) (l .loop-test .taken) (rw (lt-ltb _ _ (l .loop-test .taken)) (c .wide .ensures .0)))  -- loop-again
     (λ c.
     let l = c .before in
     let w = l .loop .inv in

@@ -28,7 +28,7 @@ use Rattle.packing.proofs.take.Reads as take
 use Rattle.packing.proofs.take.Kinds as take-kinds
 use Rattle.packing.proofs.+most+take.Lts-take as take-lts
 use Rattle.packing.proofs.room.Reads as room-reads
-use Rattle.packing.proofs.wide.Reads as wide-reads
+use Rattle.numbers.proofs.wide.Reads as wide-reads
 use Rattle.packing.proofs.+most+take.{statement}
 use Rattle.packing.proofs.+most+take.Tie.{close}
 

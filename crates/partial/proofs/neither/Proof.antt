@@ -10,7 +10,7 @@ pub neither-spec : {M : Type 1} → statement M
 neither-spec =
     tie.close
     (tie.spec
-    (λ c κs. search needs)  -- first-tasks-requires
+    (λ c κs. search needs)  -- all-below-requires
     (λ c.
     let a = c .before .args in
-    neither-mask (a .n) (c .first-tasks .result) (a .a) (a .b) (omega arith) (c .first-tasks .ensures) (or-lt 32 (a .a) (a .b) (omega arith) (omega arith))))  -- returns
+    neither-mask (a .n) (c .all-below .result) (a .a) (a .b) (omega arith) (c .all-below .ensures) (or-lt 32 (a .a) (a .b) (omega arith) (omega arith))))  -- returns

@@ -32,7 +32,7 @@ response-spec =
     (λ c. search needs)  -- index-2-x
     (λ c.
     let z = c .before .before .before in
-    repeat-start (valid-of (z .pre .0)) (z .pre .1) (c .before .wide .ensures) (z .pre .0 .in-deadline (z .args .i) (z .pre .1)) refl)  -- loop-holds
+    repeat-start (valid-of (z .pre .0)) (z .pre .1) (c .before .wide .ensures .0) (z .pre .0 .in-deadline (z .args .i) (z .pre .1)) refl)  -- loop-holds
     (λ c κs.
     let p = c .before .before .before .before .pre in
     (p .0, p .1, omega (arith, c .loop .inv .low, deadline-bound (p .0) _ (p .1))))  -- demand-at-requires
@@ -43,7 +43,7 @@ response-spec =
     record { fits = omega (arith, c .if2 .left, l .loop .inv .bound, deadline-bound (p .0) _ (p .1)) })  -- cast-x
     (λ c.
     let y = c .before .before .before in
-    repeat-falls (y .before .loop .inv) (y .demand-at .ensures) (λ q. c .before .if1 .left (q ∙ sym (c .before .before .wide2 .ensures))) (c .if2 .left))  -- loop-less
+    repeat-falls (y .before .loop .inv) (y .demand-at .ensures) (λ q. c .before .if1 .left (q ∙ sym (c .before .before .wide2 .ensures .0))) (c .if2 .left))  -- loop-less
     (λ c. let y = c .before .before .before in repeat-step (y .before .loop .inv) (y .demand-at .ensures) (c .if2 .left))  -- loop-again
     (λ c.
     let l = c .before .before .before .before .before in
@@ -53,12 +53,12 @@ response-spec =
     let y = c .before .before .before in
     let inv = y .before .loop .inv in
     ⊎-elim
-    (λ w. absurd (omega (arith, inv .low, inv .bound, c .if3 .taken, w .0 .taken, c .before .before .wide2 .ensures, w .1)))
+    (λ w. absurd (omega (arith, inv .low, inv .bound, c .if3 .taken, w .0 .taken, c .before .before .wide2 .ensures .0, w .1)))
     (λ w. repeat-exceeded inv (y .demand-at .ensures) (w .1 .taken))
     (c .before .if1 .came))  -- returns
     (λ c.
     let y = c .before .before .before .before in
     ⊎-elim
-    (λ w. w .1 ∙ repeat-reached (y .before .loop .inv) (y .demand-at .ensures) (w .0 .taken ∙ c .before .before .before .wide2 .ensures))
+    (λ w. w .1 ∙ repeat-reached (y .before .loop .inv) (y .demand-at .ensures) (w .0 .taken ∙ c .before .before .before .wide2 .ensures .0))
     (λ w. absurd (omega (arith, c .before .if3 .left, w .1 .taken, w .2)))
     (c .before .before .if1 .came)))  -- returns-2

@@ -25,7 +25,7 @@ use Rattle.seek.proofs.offset.Reads as offset-reads
 use Rattle.branching.proofs.pick.Reads as pick-reads
 use Rattle.bound.proofs.bound.Reads as bound-reads
 use Rattle.twin.proofs.twin.Reads as twin-reads
-use Rattle.seek.proofs.enter.Reads as enter-reads
+use Rattle.entering.proofs.enter.Reads as enter-reads
 use Rattle.seek.proofs.gives_up.Reads as gives-up-reads
 use Rattle.seek.proofs.turned.Reads as turned-reads
 use Rattle.seek.proofs.+explore+seek.{statement}

@@ -28,10 +28,10 @@ ample-spec =
     (λ c. omega (arith, low c))  -- mul-wide
     low  -- element-copy-out-wide
     (λ c κs. search needs)  -- wide-requires
-    (λ c. let l = c .before .before .before in taking-over (l .before .before .loop .inv) (search needs) (l .lowest .ensures) (c .before .wide .ensures) (c .if1 .taken))  -- returns
+    (λ c. let l = c .before .before .before in taking-over (l .before .before .loop .inv) (search needs) (l .lowest .ensures) (c .before .wide .ensures .0) (c .if1 .taken))  -- returns
     (λ c κs. omega (arith, low (c .before .before .before)))  -- remove-requires
     (λ c. let l = c .before .before .before .before in visit-less (l .before .before .loop .inv .visit) (search needs) (l .lowest .ensures) (c .remove .ensures))  -- loop-less
     (λ c.
     let l = c .before .before .before .before in
-    taking-next (l .before .before .loop .inv) (search needs) (l .lowest .ensures) (c .before .before .wide .ensures) (c .remove .ensures) (c .before .if1 .left))  -- loop-again
+    taking-next (l .before .before .loop .inv) (search needs) (l .lowest .ensures) (c .before .before .wide .ensures .0) (c .remove .ensures) (c .before .if1 .left))  -- loop-again
     (λ c. taking-end (c .before .loop .inv) (search needs)))  -- returns-2

@@ -22,7 +22,7 @@ use Rattle.partial.specs.declared.State.{State}
 use Rattle.partial.specs.Partial.{Stepped, StepOf}
 use Rattle.region.specs.Region.{Within, Refuted, Met}
 use Rattle.region.proofs.Refuting.{refuted-broken, refuted-set, met-here}
-use Rattle.seek.specs.Seek.{EntersAs, EnteredAs}
+use Rattle.entering.specs.Entering.{EntersAs, EnteredAs}
 use Rattle.region.specs.Begins.{Begins}
 
 -- the set of a processor other than p

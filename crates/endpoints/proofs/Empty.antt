@@ -3,10 +3,10 @@ use mathlib.Core.Path.{_≡_, refl}
 use mathlib.Core.Bool.{Bool, true, not, _&&_}
 use Prim.Native.Nat.{ℕ, _*_, _/_, _<_}
 use native.Mathlib.Omega.{arith}
-use native.Mathlib.Decide.{decLt}
 use borrow.Author.Tests.{lt-ltb}
 use lib.Dec.{T, eqb, ltb, ltb→lt}
-use lib.ListN.{length, getD, replicate, getD-replicate, List·getD-eq-default}
+use lib.ListN.{length, getD, replicate}
+use Rattle.finite.proofs.Stored.{zeros}
 use Rattle.finite.proofs.Sum.{sum-zero}
 use Rattle.finite.proofs.Some.{some-elim}
 use Rattle.finite.proofs.Only.{only-out}
@@ -18,8 +18,8 @@ use Rattle.rules.specs.Placement.{apart, together}
 use Rattle.rules.specs.Rules.{residenceBroken, coResidenceBroken, exclusionBroken, memoryOn, memoryBroken, loadOn, utilisationBroken, crosses, amountOf, traffic, networkBroken, Keeps}
 use Rattle.rules.specs.Sets.{standing}
 use Rattle.rules.proofs.Where.{apart-elim, together-elim, pair-elim}
 use Rattle.partial.specs.declared.State.{State}
-use Rattle.partial.specs.Partial.{Started}
+use Rattle.endpoints.specs.Endpoints.{Started}
 
 module _ (t : Table) (on : ℕ → ℕ → Bool) (none : (k p : ℕ) → T (on k p) → ⊥) where
   no-memory : (p : ℕ) → memoryOn t on p ≡ 0
@@ -56,11 +56,7 @@ module _ (t : Table) (on : ℕ → ℕ → Bool) (none : (k p : ℕ) → T (on k
 
 -- no task in any of the sets
 empty-sets : (k p : ℕ) → T (standing (replicate 8 0) k p) → ⊥
-empty-sets k p u = rw (zero-at (decLt p 8), has-zero k) at u
-  where
-    zero-at : Dec (p < 8) → _≡_ {A = ℕ} (getD (replicate 8 0) p 0) 0
-    zero-at (yes l) = getD-replicate 8 p 0 0 l
-    zero-at (no l) = List·getD-eq-default (replicate 8 0) 0 {n = p} (omega arith)
+empty-sets k p u = rw (zeros 8 p, has-zero k) at u
 
 pub started : {t : Table} {s : State} → s .on ≡ replicate 8 0 → s .left ≡ maskOf (t .tasks .count) (λ j. true)
     → length (s .memory) ≡ 8 → ((p : ℕ) → p < t .processors .count → getD (s .memory) p 0 ≡ getD (t .processors .memory) p 0)

@@ -4,11 +4,11 @@ use native.Mathlib.Omega.{arith}
 use borrow.Author.Needs.{needs}
 use lib.ListN.{replicate}
 use Rattle.table.proofs.Filling.{Filled, fill-start}
-use Rattle.partial.specs.Tests.{processorOf}
-use Rattle.partial.proofs.FilledUp.{fill-next, filled-at}
-use Rattle.partial.proofs.Whole.{names}
-use Rattle.partial.proofs.placement_of.Statement.{statement}
-use Rattle.partial.proofs.placement_of.Tie as tie
+use Rattle.endpoints.specs.Endpoints.{processorOf}
+use Rattle.endpoints.proofs.FilledUp.{fill-next, filled-at}
+use Rattle.endpoints.proofs.Naming.{names}
+use Rattle.endpoints.proofs.placement_of.Statement.{statement}
+use Rattle.endpoints.proofs.placement_of.Tie as tie
 
 abbrev Inv-loop : tie.InvT-loop
 Inv-loop sets n m bytes₀ k₀ bytes k = (k ≤ n) × Filled 24 n (processorOf sets m) k bytes

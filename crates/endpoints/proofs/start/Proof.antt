@@ -6,10 +6,10 @@ use native.Mathlib.Omega.{arith}
 use borrow.Author.Needs.{needs}
 use lib.ListN.{getD, replicate}
 use Rattle.table.proofs.Filling.{Filled, fill-start}
-use Rattle.partial.proofs.FilledUp.{fill-next, filled-at}
-use Rattle.partial.proofs.Empty.{started}
-use Rattle.partial.proofs.start.Statement.{statement}
-use Rattle.partial.proofs.start.Tie as tie
+use Rattle.endpoints.proofs.FilledUp.{fill-next, filled-at}
+use Rattle.endpoints.proofs.Empty.{started}
+use Rattle.endpoints.proofs.start.Statement.{statement}
+use Rattle.endpoints.proofs.start.Tie as tie
 
 abbrev Inv-loop : tie.InvT-loop
 Inv-loop t processors tasks m h memory₀ load₀ p₀ memory load p =
@@ -55,11 +55,11 @@ start-spec =
       fill-next (inv .1) most (l .loop-test .taken) (c .before .before .wide .ensures .0),
       fill-next (inv .2) most (l .loop-test .taken) (ap (λ (x : ℕ). x * l .before .before .before .before .args .t .hyperperiod / 1000) (c .wide2 .ensures .0)),
     ))  -- loop-again
-    (λ c κs. search needs)  -- first-tasks-requires
+    (λ c κs. search needs)  -- all-below-requires
     (λ c κs. search needs)  -- wide-requires-3
     (λ c. record { fits = omega (arith, product (c .wide3 .result) _ 4294967296 (omega (arith, c .wide3 .ensures)) (c .before .before .before .before .before .before .pre .hyperperiod-most)) })  -- mul-t29
     (λ c.
     let l = c .before .before in
     let inv = l .before .loop .inv in
-    started refl (c .before .first-tasks .ensures) (inv .1 .long) (filled-at (inv .1) (l .loop-test .left)) (inv .2 .long) (filled-at (inv .2) (l .loop-test .left))
+    started refl (c .before .all-below .ensures) (inv .1 .long) (filled-at (inv .1) (l .loop-test .left)) (inv .2 .long) (filled-at (inv .2) (l .loop-test .left))
     (ap (λ (x : ℕ). x * l .before .before .before .before .args .t .hyperperiod) (c .wide3 .ensures .0))))  -- returns

@@ -1,9 +1,9 @@
 -- What the rules refuse is not tested, and nothing is learnt; what the test leaves is said of the tasks of the table.
 use borrow.Author.Needs.{needs}
 use Rattle.region.proofs.Lending.{lent-tasks, lent-limits, set-below}
-use Rattle.seek.proofs.Entering.{step-allowed, enter-broken, enter-tested}
-use Rattle.seek.proofs.enter.Statement.{statement}
-use Rattle.seek.proofs.enter.Tie as tie
+use Rattle.entering.proofs.Tried.{step-allowed, enter-broken, enter-tested}
+use Rattle.entering.proofs.enter.Statement.{statement}
+use Rattle.entering.proofs.enter.Tie as tie
 
 -- what the test leaves
 returns-2 : tie.Need-returns-2

@@ -1,16 +1,15 @@
--- `first_tasks` meets its contract. Assumes nothing.
+-- `all_below` meets its contract. Assumes nothing.
 use mathlib.Core.Path.{ap, _∙_}
 use Prim.Native.Nat.{ℕ, _-_}
 use native.Mathlib.Omega.{arith}
 use borrow.Author.Needs.{needs}
 use lib.Pow.{pow-pos}
-use Rattle.mask.proofs.Laws.{one-shl}
-use Rattle.partial.proofs.MaskSets.{first-mask}
-use Rattle.partial.proofs.first_tasks.Statement.{statement}
-use Rattle.partial.proofs.first_tasks.Tie as tie
+use Rattle.mask.proofs.Laws.{one-shl, first-mask}
+use Rattle.mask.proofs.all_below.Statement.{statement}
+use Rattle.mask.proofs.all_below.Tie as tie
 
-pub first-tasks-spec : {M : Type 1} → statement M
-first-tasks-spec =
+pub all-below-spec : {M : Type 1} → statement M
+all-below-spec =
     tie.close
     (tie.spec
     (λ c. search needs)  -- cast-result

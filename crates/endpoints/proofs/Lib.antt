@@ -1,0 +1,3 @@
+pub mod FilledUp
+pub mod Empty
+pub mod Naming
