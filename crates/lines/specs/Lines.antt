@@ -1,17 +1,9 @@
--- The lines of the program's listing, as bytes (01, "The program"). Every line ends in one LF. Assumes nothing.
-use mathlib.Core.Bool.{Bool, true, false, cond}
-use mathlib.Core.List.{List, [], _∷_, _++_}
+-- The lines of the program's listing that hold numbers, as bytes (01, "The program"). Every line ends in one LF. Assumes nothing.
+use mathlib.Core.Bool.{cond}
+use mathlib.Core.List.{List, [], _++_}
 use Prim.Native.Nat.{ℕ}
-use Prim.Native.Char.{code}
-use Prim.Native.String as string
-use Prim.Native.String.{String}
 use Rattle.mask.specs.Mask.{has}
-use Rattle.text.specs.Text.{decimal, pieces}
-
--- a text's characters in ASCII
-abbrev pub ascii : String → List ℕ
-ascii string.[] = []
-ascii (string._∷_ c s) = code c ∷ ascii s
+use Rattle.text.specs.Text.{ascii, decimal, pieces}
 
 -- a word and a number
 abbrev pub item : List ℕ → ℕ → List ℕ
@@ -44,13 +36,3 @@ conflictLine n mask = ascii "conflict" ++ pieces n (member mask) ++ ascii "\n"
 -- 01: a refusal prints only one line: `refused`, number, place
 abbrev pub refusedLine : ℕ → ℕ → List ℕ
 refusedLine number place = pairLine (ascii "refused ") number place
-
--- 01: the first line; with no placement it is `none`
-abbrev pub firstLine : Bool → List ℕ
-firstLine true = ascii "found\n"
-firstLine false = ascii "none\n"
-
--- 01: the last line; a cut list ends in `cut`
-abbrev pub lastLine : Bool → List ℕ
-lastLine true = ascii "complete\n"
-lastLine false = ascii "cut\n"

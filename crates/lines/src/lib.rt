@@ -1,8 +1,8 @@
-// The lines of the program's listing: each is put at a place of a lent buffer, and its end is returned.
+// The lines of the program's listing that hold numbers: each is put at a place of a lent buffer, and its end is returned.
 ghost use Prim.Native.Nat.{_+_, _≤_, _<_};
 ghost use lib.ListN.{length};
 ghost use Rattle.text.specs.Text.{Put};
-ghost use Rattle.lines.specs.Lines.{item, taskLine, pairLine, loadLine, member, conflictLine, refusedLine, firstLine, lastLine};
+ghost use Rattle.lines.specs.Lines.{item, taskLine, pairLine, loadLine, member, conflictLine, refusedLine};
 
 const LF: [u8; 1] = *b"\n";
 
@@ -21,14 +21,6 @@ const LOAD: [u8; 5] = *b"load ";
 const CONFLICT: [u8; 8] = *b"conflict";
 
 const REFUSED: [u8; 8] = *b"refused ";
-
-const FOUND: [u8; 6] = *b"found\n";
-
-const NONE: [u8; 5] = *b"none\n";
-
-const COMPLETE: [u8; 9] = *b"complete\n";
-
-const CUT: [u8; 4] = *b"cut\n";
 
 // Puts a word and a number.
 fn put_item(text: &mut [u8], at: usize, word: &[u8], x: u64) -> usize
@@ -100,26 +92,4 @@ pub fn refused_line(text: &mut [u8], at: usize, number: u16, place: usize) -> us
     ensures { λ r. ⌜ Put (now (text .entry)) at (refusedLine number place) (now (text .exit)) r × (r ≤ at + 128) ⌝ }
 {
     pair_line(text, at, &REFUSED, number as u64, place as u64)
-}
-
-// The first line of an answer: whether there is a placement.
-pub fn first_line(text: &mut [u8], at: usize, found: bool) -> usize
-    requires { ⌜ at + 128 ≤ length (now text) ⌝ }
-    ensures { λ r. ⌜ Put (now (text .entry)) at (firstLine found) (now (text .exit)) r × (r ≤ at + 128) ⌝ }
-{
-    if found {
-        return text::put(text, at, &FOUND);
-    }
-    text::put(text, at, &NONE)
-}
-
-// The last line of an answer: whether the list of conflicts is complete.
-pub fn last_line(text: &mut [u8], at: usize, complete: bool) -> usize
-    requires { ⌜ at + 128 ≤ length (now text) ⌝ }
-    ensures { λ r. ⌜ Put (now (text .entry)) at (lastLine complete) (now (text .exit)) r × (r ≤ at + 128) ⌝ }
-{
-    if complete {
-        return text::put(text, at, &COMPLETE);
-    }
-    text::put(text, at, &CUT)
 }

@@ -18,7 +18,7 @@ use Rattle.table.specs.Sound.{Sound}
 use Rattle.search.specs.declared.Answer.{Answer}
 use Rattle.search.specs.declared.Answer.the-variants.{Written}
 use Rattle.search.specs.Search.{AnsweredBy, SearchedBy, Searched}
-use Rattle.lines.specs.Lines.{firstLine}
+use Rattle.outcome.specs.Outcome.{firstLine}
 use Rattle.listing.specs.Listing.{placementLines, headLines}
 
 -- a hyperperiod is not 0

@@ -15,7 +15,8 @@ use Rattle.search.specs.declared.Answer.{Answer}
 use Rattle.search.specs.declared.Answer.the-variants.{Refused, Written}
 use Rattle.search.specs.Search.{Searched}
 use Rattle.text.specs.Text.{pieces, Put}
-use Rattle.lines.specs.Lines.{taskLine, loadLine, conflictLine, refusedLine, firstLine, lastLine}
+use Rattle.outcome.specs.Outcome.{firstLine, lastLine}
+use Rattle.lines.specs.Lines.{taskLine, loadLine, conflictLine, refusedLine}
 
 -- 01: task lines give task, processor, response and deadline
 abbrev pub taskLines : List ℕ → List ℕ → List ℕ → List ℕ

@@ -83,7 +83,7 @@ fn put_head(text: &mut [u8], file: &[u8], table: Table, found: bool, placement: 
     requires { ⌜ (4224 ≤ length (now text)) × Sound table × (length (now placement) ≡ table .tasks .count) ⌝ }
     ensures { λ r. ⌜ Put (now (text .entry)) 0 (headLines found (now (file .entry)) table (now (placement .entry))) (now (text .exit)) r × (r ≤ 4224) ⌝ }
 {
-    let end = lines::first_line(text, 0, found);
+    let end = outcome::first_line(text, 0, found);
     if !found {
         return end;
     }
@@ -114,7 +114,7 @@ fn put_answer(text: &mut [u8], file: &[u8], table: Table, answer: &[u8], count: 
     let found = answer[0] == 65;
     let head = put_head(text, file, table, found, &answer[2..n + 2]);
     let end = put_conflicts(text, head, n, &answer[n + 2..], (count - n - 5) / 6);
-    lines::last_line(text, end, answer[count - 1] == 1)
+    outcome::last_line(text, end, answer[count - 1] == 1)
 }
 
 // Searches a file and puts the listing of the answer; returns where it ends.

@@ -1,11 +1,11 @@
--- `first_line` meets its contract, by whether there is a placement.
+-- `last_line` meets its contract, by whether the list is complete.
 use native.Mathlib.Omega.{arith}
 use borrow.Author.Needs.{needs}
-use Rattle.lines.proofs.first_line.Statement.{statement}
-use Rattle.lines.proofs.first_line.Tie as tie
+use Rattle.outcome.proofs.last_line.Statement.{statement}
+use Rattle.outcome.proofs.last_line.Tie as tie
 
-pub first-line-spec : {M : Type 1} → statement M
-first-line-spec =
+pub last-line-spec : {M : Type 1} → statement M
+last-line-spec =
     tie.close
     (tie.spec
     (λ c. search needs)  -- slice-aggregate-put

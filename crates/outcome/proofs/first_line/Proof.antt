@@ -1,11 +1,11 @@
--- `last_line` meets its contract, by whether the list is complete.
+-- `first_line` meets its contract, by whether there is a placement.
 use native.Mathlib.Omega.{arith}
 use borrow.Author.Needs.{needs}
-use Rattle.lines.proofs.last_line.Statement.{statement}
-use Rattle.lines.proofs.last_line.Tie as tie
+use Rattle.outcome.proofs.first_line.Statement.{statement}
+use Rattle.outcome.proofs.first_line.Tie as tie
 
-pub last-line-spec : {M : Type 1} → statement M
-last-line-spec =
+pub first-line-spec : {M : Type 1} → statement M
+first-line-spec =
     tie.close
     (tie.spec
     (λ c. search needs)  -- slice-aggregate-put
