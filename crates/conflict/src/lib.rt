@@ -5,7 +5,7 @@ ghost use Rattle.mask.specs.Mask.{has};
 ghost use Rattle.schedule.specs.Periodic.{LateSet};
 ghost use Rattle.schedule.specs.Arrays.{tasksOf, InLimits};
 ghost use Rattle.table.specs.Sound.{Sound};
-ghost use Rattle.conflict.specs.Conflict.{numberOf, Checked, MinimalWithin};
+ghost use Rattle.conflict.specs.Conflict.{Checked, MinimalWithin};
 ghost use Rattle.timing.specs.Timing.{tasksIn};
 ghost use Rattle.conflict.specs.Entry.{Answered, AnsweredFor};
 ghost use Rattle.conflict.specs.Count.{lateAsNumber, lateCount, lateCountOf};
@@ -19,17 +19,6 @@ pub enum Finding {
     NoConflict,
     NotMinimal,
     MinimalConflict,
-}
-
-// Document 01's number of a finding.
-pub fn number(finding: Finding) -> u64
-    ensures { λ r. ⌜ r ≡ numberOf finding ⌝ }
-{
-    match finding {
-        Finding::NoConflict => 0,
-        Finding::NotMinimal => 1,
-        Finding::MinimalConflict => 2,
-    }
 }
 
 // The answer to a conflict check: a refusal with its place, or what was found.
@@ -83,7 +72,7 @@ fn check_table(table: Table, mask: u32) -> Answer
 {
     let tasks = table.tasks;
     let n = tasks.count;
-    if verdict::bad_group(n, mask) {
+    if !mask::is_group(mask, n) {
         return Answer::Refused(Cause::NoConflictMask, 0);
     }
     let timing = timing::timing_of(table);

@@ -15,7 +15,7 @@ fn refused_as(cause: Cause, place: usize) -> u64
     requires { ⌜ place ≤ 1302 ⌝ }
     ensures { λ r. ⌜ r ≡ refusedAs cause place ⌝ }
 {
-    (table::cause_number(cause) as u64) * 4294967296 + (place as u64)
+    (codes::cause_number(cause) as u64) * 4294967296 + (place as u64)
 }
 
 #[no_mangle]
@@ -37,7 +37,7 @@ pub extern "C" fn placement_conflict(file: &[u8], mask: u32) -> u64
     let answer = conflict::check_conflict(file, mask);
     match answer {
         Answer::Refused(cause, place) => refused_as(cause, place),
-        Answer::Found(finding) => conflict::number(finding),
+        Answer::Found(finding) => codes::finding_number(finding),
     }
 }
 
@@ -48,7 +48,7 @@ pub extern "C" fn placement_judge(file: &[u8], placement: &[u8]) -> u16
 {
     let judged = judge::judge(file, placement);
     let judgement = judged.judgement;
-    judge::number(judgement)
+    codes::judgement_number(judgement)
 }
 
 // The first placement, the conflicts before it and the mark, into the answer buffer: the count of bytes written, or the refusal.

@@ -2,15 +2,12 @@
 use mathlib.Core.Path.{_≡_, subst}
 use mathlib.Core.Bool.{Bool, true, false}
 use mathlib.Core.List.{List}
-use Prim.Native.Nat.{ℕ, _≤_}
-use native.Mathlib.Omega.{arith}
-use lib.ListN.{length}
+use Prim.Native.Nat.{ℕ}
 use Rattle.table.specs.declared.Table.{Table}
 use Rattle.schedule.specs.Periodic.{LateSet}
 use Rattle.rules.specs.Placement.{andTask}
 use Rattle.rules.specs.Sets.{standing}
 use Rattle.timing.specs.Timing.{tasksIn}
-use Rattle.ledger.proofs.Append.{ledger-start}
 use Rattle.ledger.proofs.Growth.{grows-trans}
 use Rattle.partial.specs.declared.State.{State}
 use Rattle.region.specs.Region.{Within, Refuted}
@@ -19,10 +16,6 @@ use Rattle.entering.specs.declared.Entered.{Entered}
 use Rattle.entering.specs.Entering.{EntersAs, EnteredAs}
 use Rattle.deciding.specs.declared.Covering.{Covering}
 use Rattle.deciding.specs.Deciding.{DecidedAs, CoveringAs}
-
--- deciding begins with a list without places
-pub begins-deciding : {t : Table} {s : State} → Ready t s → (none : List ℕ) → 3 ≤ length none → Begins t false 0 s none 0
-begins-deciding w none l = record { fits = w .fits; ledger = ledger-start (omega arith); clear = w .in-time }
 
 module _ {t : Table} {places : ℕ} {s : State} {k p : ℕ} {old mid : List ℕ} {before : ℕ} (e : Entered) where
   -- in the way that decides

@@ -5,7 +5,7 @@ ghost use Rattle.finite.specs.Finite.{only};
 ghost use Rattle.table.specs.Sound.{Sound};
 ghost use Rattle.schedule.specs.Arrays.{tasksOf};
 ghost use Rattle.rules.specs.Sets.{setsOf};
-ghost use Rattle.judge.specs.Judge.{PlacementOf, firstUnknown, responseOf, responsesOf, refusal, judgementBy, judgedOn, judgeOf, numberOf};
+ghost use Rattle.judge.specs.Judge.{PlacementOf, firstUnknown, responseOf, responsesOf, refusal, judgementBy, judgedOn, judgeOf};
 ghost use Rattle.judge.specs.Arrays.{Placed};
 use rules::Check;
 use rules::Rule;
@@ -25,17 +25,6 @@ pub enum Judgement {
 pub struct Judged {
     pub judgement: Judgement,
     pub responses: [u32; 24],
-}
-
-// The number that the buyer's configuration tool takes back.
-pub fn number(j: Judgement) -> u16
-    ensures { λ r. ⌜ r ≡ numberOf j ⌝ }
-{
-    match j {
-        Judgement::Refused(cause, _) => table::cause_number(cause),
-        Judgement::Kept => 0,
-        Judgement::Broken(rule, _) => rules::rule_number(rule),
-    }
 }
 
 fn refused(cause: Cause, place: usize) -> Judged

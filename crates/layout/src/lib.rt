@@ -36,7 +36,7 @@ pub struct Shape {
 }
 
 impl Shape {
-    pub fn new(order: usize, size: usize, most: usize, next: usize) -> Self
+    fn new(order: usize, size: usize, most: usize, next: usize) -> Self
         ensures { λ r. ⌜ r ≡ shape order size most next ⌝ }
     {
         Self {

@@ -1,15 +1,13 @@
--- What the listing needs of a table that was read, and of its own definitions. Assumes nothing.
+-- What the listing needs of a search that wrote its answer. Assumes nothing.
 use mathlib.Core.Path.{_≡_, refl}
 use mathlib.Core.Bool.{Bool, true, false}
-use mathlib.Core.List.{List, _++_}
+use mathlib.Core.List.{List}
 use Prim.Native.Nat.{ℕ, _+_, _*_, _≤_}
 use native.Mathlib.Omega.{arith}
 use borrow.Author.Tests.{ltb-false}
 use lib.Dec.{ltb}
-use lib.ListN.{length, getD}
-use Rattle.multiple.proofs.Laws.{lcmTo-pos}
+use lib.ListN.{length}
 use Rattle.wire.specs.Wire.{Bytes}
-use Rattle.table.specs.declared.Table.{Table}
 use Rattle.table.specs.declared.Outcome.{Outcome}
 use Rattle.table.specs.declared.Outcome.the-variants as outcomes
 use Rattle.table.specs.Table.{readOf}
@@ -18,21 +16,6 @@ use Rattle.table.specs.Sound.{Sound}
 use Rattle.search.specs.declared.Answer.{Answer}
 use Rattle.search.specs.declared.Answer.the-variants.{Written}
 use Rattle.search.specs.Search.{AnsweredBy, SearchedBy, Searched}
-use Rattle.outcome.specs.Outcome.{firstLine}
-use Rattle.listing.specs.Listing.{placementLines, headLines}
-
--- a hyperperiod is not 0
-pub some-tick : {t : Table} → Sound t → 1 ≤ t .hyperperiod
-some-tick {t} h =
-    let a = h .tasks in
-    omega (arith, h .hyperperiod, lcmTo-pos (t .tasks .count) (λ j. getD (t .tasks .t) j 0) (λ j l. omega (arith, a .works j l, a .c-d j l, a .d-t j l)))
-
--- the head without a placement, and with one
-pub head-none : {found : Bool} → found ≡ false → (file : List ℕ) (t : Table) (q : List ℕ) → headLines found file t q ≡ firstLine found
-head-none e file t q = rw e refl
-
-pub head-more : {found : Bool} → found ≡ true → (file : List ℕ) (t : Table) (q : List ℕ) → headLines found file t q ≡ firstLine found ++ placementLines file t q
-head-more e file t q = rw e refl
 
 -- an answer that is written: the file was read, and the bytes written lie within the buffer
 pub record Answered (file old : List ℕ) (count : ℕ) : Type 0 where

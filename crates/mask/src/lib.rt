@@ -1,6 +1,6 @@
 // Sets of numbers below 32 as masks: bit k stands for the number k.
 ghost use mathlib.Core.Path.{_≡_};
-ghost use mathlib.Core.Bool.{true};
+ghost use mathlib.Core.Bool.{true, _&&_};
 ghost use Prim.Native.Nat.{_<_};
 ghost use lib.Dec.{leb};
 ghost use Rattle.mask.specs.Mask.{has, within, below, size, insertOf, removeOf, lowestOf, maskOf};
@@ -49,6 +49,17 @@ pub fn at_least_two(mask: u32) -> bool
     ensures { λ r. ⌜ r ≡ leb 2 (size 32 mask) ⌝ }
 {
     2 <= u32::count_ones(mask)
+}
+
+// Whether the set has two numbers or more, all of them below n.
+pub fn is_group(mask: u32, n: usize) -> bool
+    requires { ⌜ n < 32 ⌝ }
+    ensures { λ r. ⌜ r ≡ (below n mask && leb 2 (size 32 mask)) ⌝ }
+{
+    if only_below(mask, n) {
+        return at_least_two(mask);
+    }
+    false
 }
 
 // The lowest number of the set, which is not empty.

@@ -1,6 +1,5 @@
 // The rules of a placement, whole or partial, and the sets of tasks by which one is given to those who check it.
 ghost use mathlib.Core.Path.{_≡_};
-ghost use Rattle.rules.specs.Rules.{ruleNumber};
 ghost use Rattle.rules.specs.Sets.{setsOf, Placeable};
 
 // The rules of document 01, in its order.
@@ -18,21 +17,6 @@ pub enum Rule {
 pub enum Check {
     Kept,
     Broken(Rule, usize),
-}
-
-// Document 01's number of a rule.
-pub fn rule_number(rule: Rule) -> u16
-    ensures { λ r. ⌜ r ≡ ruleNumber rule ⌝ }
-{
-    match rule {
-        Rule::Residence => 101,
-        Rule::CoResidence => 102,
-        Rule::Exclusion => 103,
-        Rule::Memory => 104,
-        Rule::Utilisation => 105,
-        Rule::Network => 106,
-        Rule::Deadline => 107,
-    }
 }
 
 // The tasks of a placement on each processor.

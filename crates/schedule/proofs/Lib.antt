@@ -10,7 +10,6 @@ pub mod InTime
 pub mod LateSets
 pub mod SharesLoop
 pub mod Tabulate
-pub mod HigherLoops
 pub mod TasksOfArrays
 pub mod ResponseLoop
 pub mod Cases

@@ -4,7 +4,7 @@ ghost use Prim.Native.Nat.{_*_, _<_, _≤_};
 ghost use Rattle.mask.specs.Mask.{has};
 ghost use Rattle.schedule.specs.Periodic.{LateSet};
 ghost use Rattle.schedule.specs.Response.{ceil, demand, response};
-ghost use Rattle.schedule.specs.Arrays.{tasksOf, higherThan, higherOf, sharesOf, SmallShares, InLimits, Says};
+ghost use Rattle.schedule.specs.Arrays.{tasksOf, sharesOf, SmallShares, InLimits, Says};
 use numbers::wide;
 
 // The rows: C, T, D, the priority, and the tasks of larger priority.
@@ -19,37 +19,6 @@ pub const DEADLINE: usize = 2;
 pub const PRIORITY: usize = 3;
 
 pub const HIGHER: usize = 4;
-
-// The tasks of larger priority than task i.
-fn higher_than(priority: &[u32; 24], n: usize, i: usize) -> u32
-    requires { ⌜ (n ≤ 24) × (i < n) ⌝ }
-    ensures { λ r. ⌜ r ≡ higherThan n (now (priority .entry)) i ⌝ }
-{
-    let mut set: u32 = 0;
-    let mut j: usize = 0;
-    while j < n {
-        if priority[i] < priority[j] {
-            set = mask::insert(set, j);
-        }
-        j += 1;
-    }
-    set
-}
-
-// The tasks of larger priority than each task: made once for a table.
-pub fn higher(priority: &[u32; 24], n: usize) -> [u32; 24]
-    requires { ⌜ n ≤ 24 ⌝ }
-    ensures { λ r. ⌜ r ≡ higherOf n (now (priority .entry)) ⌝ }
-{
-    let mut rows = [0u32; 24];
-    let mut i: usize = 0;
-    while i < n {
-        let row = higher_than(priority, n, i);
-        rows[i] = row;
-        i += 1;
-    }
-    rows
-}
 
 // x / t, rounded up.
 fn rounded_up(x: u32, t: u32) -> u32
@@ -83,7 +52,7 @@ fn interference(timing: &Timing, others: u32, x: u32) -> u64
 }
 
 // The demand at x on task i in the set. The priorities enter through the row of larger ones.
-pub fn demand_at(timing: &Timing, n: usize, set: u32, i: usize, x: u32) -> u64
+fn demand_at(timing: &Timing, n: usize, set: u32, i: usize, x: u32) -> u64
     requires { ⌜ InLimits n (now timing) set × (i < n) × (x ≤ 1000000) ⌝ }
     ensures { λ r. ⌜ r ≡ demand (tasksOf n (now (timing .entry))) (has set) i x ⌝ }
 {

@@ -1,9 +1,7 @@
--- 01's numbers and places of a refusal ("Refused input").
+-- 01's numbers of the causes ("Refused input").
 use Prim.Native.Nat.{ℕ}
 use Rattle.verdict.specs.declared.Cause.{Cause}
 use Rattle.verdict.specs.declared.Cause.the-variants.{Cut, UnknownMark, OutOfOrder, TooMany, OutOfRange, NotInFile, PriorityUsed, PeriodsDiffer, MessageRepeated, HyperperiodTooLarge, Missing, ShortAnswer, PlacementLength, UnknownProcessor, NoConflictMask}
-use Rattle.table.specs.declared.Outcome.{Outcome}
-use Rattle.table.specs.declared.Outcome.the-variants.{Readable, Refused}
 
 -- the number of a cause
 abbrev pub causeNumber : Cause → ℕ
@@ -22,12 +20,3 @@ causeNumber ShortAnswer = 12
 causeNumber PlacementLength = 13
 causeNumber UnknownProcessor = 14
 causeNumber NoConflictMask = 15
-
--- the number of an outcome, 0 where the file is read, and its place
-abbrev pub numberOf : Outcome → ℕ
-numberOf Readable = 0
-numberOf (Refused cause place) = causeNumber cause
-
-abbrev pub placeOf : Outcome → ℕ
-placeOf Readable = 0
-placeOf (Refused cause place) = place

@@ -8,7 +8,6 @@ ghost use Rattle.wire.specs.Wire.{number};
 ghost use Rattle.layout.specs.Format.{row, count, Counted};
 ghost use Rattle.verdict.specs.Reached.{Reached};
 ghost use Rattle.table.specs.Scan.{noRecords, withRecord, refusal, atEnd, scanOf};
-ghost use Rattle.table.specs.Refusal.{causeNumber};
 ghost use Rattle.table.specs.Table.{column, widthOf, processorsOf, tasksOf, messagesOf, tableOf, emptyTable, readOf};
 ghost use Rattle.table.specs.Columns.{Fits, fieldOf, groupsAt};
 use layout::Kind;
@@ -78,29 +77,6 @@ pub enum Width {
     One,
     Two,
     Four,
-}
-
-// Document 01's number of a cause.
-pub fn cause_number(cause: Cause) -> u16
-    ensures { λ r. ⌜ (r ≡ causeNumber cause) × (r ≤ 15) ⌝ }
-{
-    match cause {
-        Cause::Cut => 1,
-        Cause::UnknownMark => 2,
-        Cause::OutOfOrder => 3,
-        Cause::TooMany => 4,
-        Cause::OutOfRange => 5,
-        Cause::NotInFile => 6,
-        Cause::PriorityUsed => 7,
-        Cause::PeriodsDiffer => 8,
-        Cause::MessageRepeated => 9,
-        Cause::HyperperiodTooLarge => 10,
-        Cause::Missing => 11,
-        Cause::ShortAnswer => 12,
-        Cause::PlacementLength => 13,
-        Cause::UnknownProcessor => 14,
-        Cause::NoConflictMask => 15,
-    }
 }
 
 fn no_records() -> Progress

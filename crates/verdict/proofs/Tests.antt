@@ -1,20 +1,29 @@
 -- The tests against a record, by what the code compares. Assumes nothing.
-use mathlib.Core.Path.{_≡_, sym, ap, _∙_}
-use mathlib.Core.Bool.{Bool, not, _&&_}
+use mathlib.Core.Path.{_≡_, refl, sym, ap, _∙_}
+use mathlib.Core.Bool.{Bool, true, false, not, _&&_, _||_}
 use mathlib.Core.List.{List}
 use Prim.Native.Nat.{ℕ, _+_, _*_, _<_}
 use native.Mathlib.Omega.{arith}
 use native.Mathlib.Decide.{ℕ-discrete}
 use borrow.Author.Tests.{eq-eqb, ne-eqb}
-use lib.Dec.{eqb}
+use lib.Dec.{eqb, leb}
 use Rattle.finite.specs.Finite.{someBelow}
 use Rattle.finite.proofs.Some.{some-ext}
+use Rattle.mask.specs.Mask.{below, size}
 use Rattle.wire.specs.Wire.{number, Bytes}
 use Rattle.wire.proofs.Laws.{number-add, number-lt}
 use Rattle.layout.specs.declared.Kind.the-variants.{Task, Message}
 use Rattle.layout.specs.declared.Progress.{Progress}
 use Rattle.layout.specs.Format.{T, sender, receiver, count, start}
-use Rattle.verdict.specs.Faults.{priorityUsed, periodsDiffer, messageRepeated}
+use Rattle.verdict.specs.Faults.{badGroup, priorityUsed, periodsDiffer, messageRepeated}
+
+pub group-by : (n g : ℕ) {b : Bool} → b ≡ (below n g && leb 2 (size 32 g)) → badGroup n g ≡ not b
+unfolding badGroup
+group-by n g e = rw e (go (below n g) (leb 2 (size 32 g)))
+  where
+    go : (a b : Bool) → (not a || not b) ≡ not (a && b)
+    go true b = refl
+    go false b = refl
 
 module _ (s : List ℕ) (at : ℕ) (x : Progress) {first : ℕ} where
   pub priority-by : {b : Bool} → first ≡ start x Task

@@ -6,7 +6,7 @@ ghost use lib.ListN.{length};
 ghost use Rattle.finite.specs.Finite.{someBelow};
 ghost use Rattle.wire.specs.Wire.{number};
 ghost use Rattle.layout.specs.Format.{size, T};
-ghost use Rattle.verdict.specs.Faults.{within, outOfRange, badResidence, badGroup, badPair, contentVerdict, recordVerdict, verdict};
+ghost use Rattle.verdict.specs.Faults.{within, outOfRange, badResidence, badPair, contentVerdict, recordVerdict, verdict};
 ghost use Rattle.verdict.specs.Reached.{Standing, Reached, groupVerdict, pairVerdict};
 use layout::Kind;
 use layout::Mark;
@@ -78,19 +78,6 @@ fn bad_residence(processors: usize, residence: u32) -> bool
     }
     if mask::only_below(residence, processors) {
         return false;
-    }
-    true
-}
-
-pub fn bad_group(tasks: usize, group: u32) -> bool
-    requires { ⌜ tasks < 32 ⌝ }
-    ensures { λ r. ⌜ r ≡ badGroup tasks group ⌝ }
-{
-    if mask::only_below(group, tasks) {
-        if mask::at_least_two(group) {
-            return false;
-        }
-        return true;
     }
     true
 }
@@ -169,10 +156,10 @@ fn group_verdict(file: &[u8], at: usize, x: Progress, kind: Kind) -> Verdict
     requires { ⌜ Reached (now file) at x × (at + 6 ≤ length (now file)) ⌝ }
     ensures { λ r. ⌜ r ≡ groupVerdict (now (file .entry)) at x kind ⌝ }
 {
-    if bad_group(x.counts[2], wire::word_at(file, at + 2)) {
-        return Verdict::Refused(Cause::NotInFile);
+    if mask::is_group(wire::word_at(file, at + 2), x.counts[2]) {
+        return Verdict::Taken(kind, x.hyperperiod);
     }
-    Verdict::Taken(kind, x.hyperperiod)
+    Verdict::Refused(Cause::NotInFile)
 }
 
 fn message_verdict(file: &[u8], at: usize, x: Progress) -> Verdict

@@ -16,4 +16,4 @@ placement-conflict-spec =
     (λ c. search needs)  -- enum-known-answer-2
     (λ c κs. search needs)  -- number-requires
     (λ c. c .refused-as .ensures ∙ ap conflictAs (sym (c .before .before .answer .given .1) ∙ c .before .before .before .before .check-conflict .ensures .value))  -- returns
-    (λ c. c .number .ensures ∙ ap conflictAs (sym (c .before .before .answer2 .given .1) ∙ c .before .before .before .before .check-conflict .ensures .value)))  -- returns-2
+    (λ c. c .finding-number .ensures ∙ ap conflictAs (sym (c .before .before .answer2 .given .1) ∙ c .before .before .before .before .check-conflict .ensures .value)))  -- returns-2

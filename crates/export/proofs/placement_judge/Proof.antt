@@ -12,4 +12,4 @@ placement-judge-spec =
     (tie.spec
     (λ c κs. search needs)  -- judge-requires
     (λ c κs. search needs)  -- number-requires
-    (λ c. c .number .ensures ∙ ap (λ (z : Judged). numberOf (z .judgement)) (c .before .judge .ensures)))  -- returns
+    (λ c. c .judgement-number .ensures ∙ ap (λ (z : Judged). numberOf (z .judgement)) (c .before .judge .ensures)))  -- returns
