@@ -29,6 +29,7 @@ use columns::SENDER;
 use known::Known;
 use ledger::Mode;
 use memo::Memo;
+use notes::Notes;
 use numbers::wide;
 use packing::Packed;
 use partial::Sizes;
@@ -504,9 +505,7 @@ fn try_all<'a>(
 }
 
 // Whether the bound is tried: with four open tasks or more; where it has not paid of late, every 32nd time.
-fn due(left: u32, notes: &mut [u32]) -> bool
-    requires { ⌜ 64 ≤ length (now notes) ⌝ }
-{
+fn due(left: u32, notes: &mut Notes) -> bool {
     if u32::count_ones(left) < 4 {
         return false;
     }
@@ -533,9 +532,7 @@ fn credit(before: u32, hopeless: bool) -> u32 {
 }
 
 // A try of the bound is noted.
-fn note(notes: &mut [u32], hopeless: bool)
-    requires { ⌜ 64 ≤ length (now notes) ⌝ }
-{
+fn note(notes: &mut Notes, hopeless: bool) {
     notes[25] = credit(notes[25], hopeless);
 }
 
@@ -550,11 +547,11 @@ pub fn bound<'a>(
     mode: Mode,
     list: &mut [u8],
     count: usize,
-    notes: &mut [u32],
+    notes: &mut Notes,
     known: &mut Known,
     memo: &mut Memo,
 ) -> Bounded
-    requires { ⌜ ((t : Table) × Lends t sizes (now timing) (now columns) (now messages) × Begins t (mode .listing) (mode .places) s (now list) count × Learnt t (now columns) (now known) (now memo)) × (64 ≤ length (now notes)) ⌝ }
+    requires { ⌜ ((t : Table) × Lends t sizes (now timing) (now columns) (now messages) × Begins t (mode .listing) (mode .places) s (now list) count × Learnt t (now columns) (now known) (now memo)) ⌝ }
     ensures { λ r. ⌜ ((t : Table) → Lends t sizes (now (timing .entry)) (now (columns .entry)) (now (messages .entry))
         → Begins t (mode .listing) (mode .places) s (now (list .entry)) count → Learnt t (now (columns .entry)) (now (known .entry)) (now (memo .entry)) → BoundedAs t (mode .listing) (mode .places) s (now (list .entry)) count (now (list .exit)) r × Learnt t (now (columns .entry)) (now (known .exit)) (now (memo .exit))) ⌝ }
 {

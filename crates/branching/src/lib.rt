@@ -14,6 +14,7 @@ use columns::Columns;
 use columns::Messages;
 use known::Known;
 use ledger::Mode;
+use notes::Notes;
 use numbers::wide;
 use partial::Site;
 use partial::Sizes;
@@ -21,8 +22,8 @@ use partial::State;
 use schedule::Timing;
 
 // The lower, the sooner task k is placed: few choices, which count squared, and a large weight; and a little noise, so that a restart chooses anew.
-fn score(base: u32, choices: u64, k: usize, notes: &mut [u32]) -> u64
-    requires { ⌜ (choices ≤ 8) × (k < 24) × (64 ≤ length (now notes)) ⌝ }
+fn score(base: u32, choices: u64, k: usize, notes: &mut Notes) -> u64
+    requires { ⌜ (choices ≤ 8) × (k < 24) ⌝ }
 {
     let weight = wide(base) + wide(notes[k]) + 1;
     let plain = choices * choices * 67108864 / weight;
@@ -96,10 +97,10 @@ pub fn pick<'a>(
     mode: Mode,
     list: &[u8],
     count: usize,
-    notes: &mut [u32],
+    notes: &mut Notes,
     known: &mut Known,
 ) -> usize
-    requires { ⌜ ((t : Table) × Lends t sizes (now timing) (now columns) (now messages) × Fits t s × Knows (tasksIn t) (now known)) × (0 < s .left) × (6 * count ≤ length (now list)) × (64 ≤ length (now notes)) ⌝ }
+    requires { ⌜ ((t : Table) × Lends t sizes (now timing) (now columns) (now messages) × Fits t s × Knows (tasksIn t) (now known)) × (0 < s .left) × (6 * count ≤ length (now list)) ⌝ }
     ensures { λ r. ⌜ T (has (s .left) r) × ((t : Table) → Lends t sizes (now (timing .entry)) (now (columns .entry)) (now (messages .entry))
         → Fits t s → Knows (tasksIn t) (now (known .entry)) → Knows (tasksIn t) (now (known .exit))) ⌝ }
 {

@@ -1,7 +1,6 @@
 // The search of a region, in its two ways: whether it has a placement without a late set; and which conflicts rule out all of its placements.
 ghost use mathlib.Core.Bool.{true};
 ghost use Prim.Native.Nat.{_+_, _≤_};
-ghost use lib.ListN.{length};
 ghost use Rattle.table.specs.declared.Table.{Table};
 ghost use Rattle.rules.specs.Sets.{standing};
 ghost use Rattle.region.specs.Lends.{Lends};
@@ -13,6 +12,7 @@ use columns::Messages;
 use known::Known;
 use ledger::Mode;
 use memo::Memo;
+use notes::Notes;
 use partial::Sizes;
 use partial::State;
 use schedule::Timing;
@@ -31,8 +31,8 @@ pub struct Covering {
 }
 
 // Copies 32 notes from one place to another.
-fn copy_notes(notes: &mut [u32], from: usize, to: usize)
-    requires { ⌜ (from + 32 ≤ length (now notes)) × (to + 32 ≤ length (now notes)) ⌝ }
+fn copy_notes(notes: &mut Notes, from: usize, to: usize)
+    requires { ⌜ (from ≤ 32) × (to ≤ 32) ⌝ }
 {
     let mut j: usize = 0;
     while j < 32 {
@@ -50,11 +50,11 @@ fn attempt<'a>(
     sizes: Sizes,
     s: State,
     limited: bool,
-    notes: &mut [u32],
+    notes: &mut Notes,
     known: &mut Known,
     memo: &mut Memo,
 ) -> Sought
-    requires { ⌜ ((t : Table) × Lends t sizes (now timing) (now columns) (now messages) × Ready t s × Learnt t (now columns) (now known) (now memo)) × (64 ≤ length (now notes)) ⌝ }
+    requires { ⌜ ((t : Table) × Lends t sizes (now timing) (now columns) (now messages) × Ready t s × Learnt t (now columns) (now known) (now memo)) ⌝ }
     ensures { λ r. ⌜ ((t : Table) → Lends t sizes (now (timing .entry)) (now (columns .entry)) (now (messages .entry))
         → Ready t s → Learnt t (now (columns .entry)) (now (known .entry)) (now (memo .entry)) → AttemptedAs t limited (standing (s .on)) r × Learnt t (now (columns .entry)) (now (known .exit)) (now (memo .exit))) ⌝ }
 {
@@ -87,11 +87,11 @@ pub fn decide<'a>(
     messages: &'a Messages,
     sizes: Sizes,
     s: State,
-    notes: &mut [u32],
+    notes: &mut Notes,
     known: &mut Known,
     memo: &mut Memo,
 ) -> Decided
-    requires { ⌜ ((t : Table) × Lends t sizes (now timing) (now columns) (now messages) × Ready t s × Learnt t (now columns) (now known) (now memo)) × (64 ≤ length (now notes)) ⌝ }
+    requires { ⌜ ((t : Table) × Lends t sizes (now timing) (now columns) (now messages) × Ready t s × Learnt t (now columns) (now known) (now memo)) ⌝ }
     ensures { λ r. ⌜ ((t : Table) → Lends t sizes (now (timing .entry)) (now (columns .entry)) (now (messages .entry))
         → Ready t s → Learnt t (now (columns .entry)) (now (known .entry)) (now (memo .entry)) → DecidedAs (r .found) t (standing (s .on)) (r .on) × Learnt t (now (columns .entry)) (now (known .exit)) (now (memo .exit))) ⌝ }
 {
@@ -146,11 +146,11 @@ pub fn cover<'a>(
     list: &mut [u8],
     places: usize,
     count: usize,
-    notes: &mut [u32],
+    notes: &mut Notes,
     known: &mut Known,
     memo: &mut Memo,
 ) -> Covering
-    requires { ⌜ ((t : Table) × Lends t sizes (now timing) (now columns) (now messages) × Begins t true places s (now list) count × Learnt t (now columns) (now known) (now memo)) × (64 ≤ length (now notes)) ⌝ }
+    requires { ⌜ ((t : Table) × Lends t sizes (now timing) (now columns) (now messages) × Begins t true places s (now list) count × Learnt t (now columns) (now known) (now memo)) ⌝ }
     ensures { λ r. ⌜ ((t : Table) → Lends t sizes (now (timing .entry)) (now (columns .entry)) (now (messages .entry))
         → Begins t true places s (now (list .entry)) count → Learnt t (now (columns .entry)) (now (known .entry)) (now (memo .entry)) → CoveringAs t places (standing (s .on)) (now (list .entry)) count (now (list .exit)) r × Learnt t (now (columns .entry)) (now (known .exit)) (now (memo .exit))) ⌝ }
 {

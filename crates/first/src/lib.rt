@@ -1,8 +1,7 @@
 // The search of document 01 for the first placement: task by task, processors in rising number.
 ghost use mathlib.Core.Bool.{true};
-ghost use Prim.Native.Nat.{_≤_, _<_};
+ghost use Prim.Native.Nat.{_<_};
 ghost use lib.Dec.{T};
-ghost use lib.ListN.{length};
 ghost use Rattle.mask.specs.Mask.{has};
 ghost use Rattle.table.specs.declared.Table.{Table};
 ghost use Rattle.rules.specs.Placement.{andTask};
@@ -19,6 +18,7 @@ use deciding::Decided;
 use known::Known;
 use ledger::Mode;
 use memo::Memo;
+use notes::Notes;
 use partial::Sizes;
 use partial::State;
 use schedule::Timing;
@@ -47,11 +47,11 @@ fn decide_on<'a>(
     s: State,
     k: usize,
     p: usize,
-    notes: &mut [u32],
+    notes: &mut Notes,
     known: &mut Known,
     memo: &mut Memo,
 ) -> Decided
-    requires { ⌜ ((t : Table) × Lends t sizes (now timing) (now columns) (now messages) × Ready t s × Learnt t (now columns) (now known) (now memo)) × T (has (s .left) k) × (p < sizes .processors) × (64 ≤ length (now notes)) ⌝ }
+    requires { ⌜ ((t : Table) × Lends t sizes (now timing) (now columns) (now messages) × Ready t s × Learnt t (now columns) (now known) (now memo)) × T (has (s .left) k) × (p < sizes .processors) ⌝ }
     ensures { λ r. ⌜ ((t : Table) → Lends t sizes (now (timing .entry)) (now (columns .entry)) (now (messages .entry))
         → Ready t s → Learnt t (now (columns .entry)) (now (known .entry)) (now (memo .entry)) → DecidedAs (r .found) t (andTask (standing (s .on)) k p) (r .on) × Learnt t (now (columns .entry)) (now (known .exit)) (now (memo .exit))) ⌝ }
 {
@@ -95,11 +95,11 @@ fn pass_over<'a>(
     list: &mut [u8],
     places: usize,
     count: usize,
-    notes: &mut [u32],
+    notes: &mut Notes,
     known: &mut Known,
     memo: &mut Memo,
 ) -> Covering
-    requires { ⌜ ((t : Table) × Lends t sizes (now timing) (now columns) (now messages) × Begins t true places s (now list) count × Learnt t (now columns) (now known) (now memo)) × T (has (s .left) k) × (p < sizes .processors) × (64 ≤ length (now notes)) ⌝ }
+    requires { ⌜ ((t : Table) × Lends t sizes (now timing) (now columns) (now messages) × Begins t true places s (now list) count × Learnt t (now columns) (now known) (now memo)) × T (has (s .left) k) × (p < sizes .processors) ⌝ }
     ensures { λ r. ⌜ ((t : Table) → Lends t sizes (now (timing .entry)) (now (columns .entry)) (now (messages .entry))
         → Begins t true places s (now (list .entry)) count → Learnt t (now (columns .entry)) (now (known .entry)) (now (memo .entry)) → CoveringAs t places (andTask (standing (s .on)) k p) (now (list .entry)) count (now (list .exit)) r × Learnt t (now (columns .entry)) (now (known .exit)) (now (memo .exit))) ⌝ }
 {
@@ -159,11 +159,11 @@ fn try_processor<'a>(
     places: usize,
     count: usize,
     cut: bool,
-    notes: &mut [u32],
+    notes: &mut Notes,
     known: &mut Known,
     memo: &mut Memo,
 ) -> Tried
-    requires { ⌜ ((t : Table) × Lends t sizes (now timing) (now columns) (now messages) × Placing t places s k witness (now list) count × PassedBelow t s k p (now list) count cut × Learnt t (now columns) (now known) (now memo)) × (k < sizes .tasks) × (p < sizes .processors) × (64 ≤ length (now notes)) ⌝ }
+    requires { ⌜ ((t : Table) × Lends t sizes (now timing) (now columns) (now messages) × Placing t places s k witness (now list) count × PassedBelow t s k p (now list) count cut × Learnt t (now columns) (now known) (now memo)) × (k < sizes .tasks) × (p < sizes .processors) ⌝ }
     ensures { λ r. ⌜ ((t : Table) → Lends t sizes (now (timing .entry)) (now (columns .entry)) (now (messages .entry))
         → Placing t places s k witness (now (list .entry)) count → PassedBelow t s k p (now (list .entry)) count cut → Learnt t (now (columns .entry)) (now (known .entry)) (now (memo .entry)) → TriedAs t places s k p witness (now (list .entry)) count cut (now (list .exit)) r × Learnt t (now (columns .entry)) (now (known .exit)) (now (memo .exit))) ⌝ }
 {
@@ -248,11 +248,11 @@ pub fn first<'a>(
     places: usize,
     count: usize,
     cut: bool,
-    notes: &mut [u32],
+    notes: &mut Notes,
     known: &mut Known,
     memo: &mut Memo,
 ) -> Reached
-    requires { ⌜ ((t : Table) × Lends t sizes (now timing) (now columns) (now messages) × Placing t places s k witness (now list) count × Learnt t (now columns) (now known) (now memo)) × (64 ≤ length (now notes)) ⌝ }
+    requires { ⌜ ((t : Table) × Lends t sizes (now timing) (now columns) (now messages) × Placing t places s k witness (now list) count × Learnt t (now columns) (now known) (now memo)) ⌝ }
     ensures { λ r. ⌜ ((t : Table) → Lends t sizes (now (timing .entry)) (now (columns .entry)) (now (messages .entry))
         → Placing t places s k witness (now (list .entry)) count → Learnt t (now (columns .entry)) (now (known .entry)) (now (memo .entry)) → FirstOf t places s (now (list .entry)) count cut (now (list .exit)) r × Learnt t (now (columns .entry)) (now (known .exit)) (now (memo .exit))) ⌝ }
 {

@@ -2,8 +2,7 @@
 use mathlib.Core.Path.{_≡_}
 use mathlib.Core.List.{List}
 use Prim.Native.Nat.{ℕ, _<_}
-use lib.Dec.{T}
-use Rattle.mask.specs.Mask.{below, insertOf}
+use Rattle.mask.specs.Mask.{insertOf}
 use Rattle.mask.proofs.Laws.{insert-below}
 use Rattle.schedule.specs.Arrays.{InLimits}
 use Rattle.schedule.proofs.TasksOfArrays.{with-set}

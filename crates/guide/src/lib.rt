@@ -1,5 +1,4 @@
 // The weights that guide the search: how large each task is, and how hard to place.
-ghost use mathlib.Core.Path.{_≡_};
 ghost use Prim.Native.Nat.{ℕ, _≤_, _<_};
 ghost use lib.ListN.{getD};
 ghost use Rattle.schedule.specs.Arrays.{InLimits};

@@ -1,5 +1,5 @@
 -- The limits of the kinds. Assumes nothing.
-use Prim.Native.Nat.{ℕ, _≤_, _<_}
+use Prim.Native.Nat.{_≤_, _<_}
 use native.Mathlib.Omega.{arith}
 use lib.ListN.{getD}
 use Rattle.layout.specs.declared.Kind.{Kind}

@@ -1,9 +1,12 @@
 // What the search notes on its way: failure weights and the state of its random numbers. No answer rests on them.
 ghost use mathlib.Core.Path.{_≡_};
-ghost use Prim.Native.Nat.{_<_, _≤_};
-ghost use lib.ListN.{length, getD, set};
+ghost use Prim.Native.Nat.{_<_};
+ghost use lib.ListN.{getD, set};
 ghost use Rattle.notes.specs.Notes.{heavier};
 use numbers::wide;
+
+// The tasks' failure weights; from 24 on the random numbers' state, the credit and the skips of the bound, the fuel; from 32 on a copy of these.
+pub type Notes = [u32; 64];
 
 // A failure weight after one failure more. It stays where it has grown large.
 fn heavier(weight: u32) -> u32
@@ -16,16 +19,15 @@ fn heavier(weight: u32) -> u32
 }
 
 // The failure weight of task k grows: no processor could take it.
-pub fn blame(notes: &mut [u32], k: usize)
-    requires { ⌜ k < length (now notes) ⌝ }
+pub fn blame(notes: &mut Notes, k: usize)
+    requires { ⌜ k < 64 ⌝ }
     ensures { λ _. ⌜ now (notes .exit) ≡ set (now (notes .entry)) k (heavier (getD (now (notes .entry)) k 0)) ⌝ }
 {
     notes[k] = heavier(notes[k]);
 }
 
 // A pseudo-random number below 128: the high bits of a linear congruential generator.
-pub fn noise(notes: &mut [u32]) -> u64
-    requires { ⌜ 64 ≤ length (now notes) ⌝ }
+pub fn noise(notes: &mut Notes) -> u64
     ensures { λ r. ⌜ r < 128 ⌝ }
 {
     let next = (wide(notes[24]) * 1103515245 + 12345) % 2147483648;

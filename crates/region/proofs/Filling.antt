@@ -2,17 +2,17 @@
 use mathlib.Core.Path.{_≡_, sym, subst, fun-ext, _∙_}
 use mathlib.Core.Bool.{Bool, true, false, not, cond, _&&_}
 use mathlib.Core.List.{List}
-use Prim.Native.Nat.{ℕ, _≤_, _<_}
+use Prim.Native.Nat.{ℕ, _<_}
 use native.Mathlib.Omega.{arith}
 use borrow.Author.Tests.{lt-ltb, le-ltb}
 use lib.Dec.{T, eqb, ltb, eqb→eq, eqb-refl, ltb→lt, lt→ltb}
 use lib.ListN.{length, getD}
-use Rattle.finite.specs.Finite.{someBelow, firstBelow}
+use Rattle.finite.specs.Finite.{firstBelow}
 use Rattle.finite.proofs.Search.{FirstBelow, first-below, lowest, nowhere}
 use Rattle.finite.proofs.Some.{some-intro, some-elim}
 use Rattle.mask.specs.Mask.{has, lowestOf}
 use Rattle.mask.proofs.Tests.{same-test, and-both, and-left, and-right}
-use Rattle.mask.proofs.Laws.{Lowest, lowest-is, below-has}
+use Rattle.mask.proofs.Laws.{Lowest, lowest-is}
 use Rattle.table.specs.declared.Table.{Table}
 use Rattle.table.specs.Sound.{Sound}
 use Rattle.table.specs.Table.{column}

@@ -20,7 +20,7 @@ use Rattle.timing.specs.Timing.{tasksIn}
 use Rattle.judge.specs.Judge.{PlacementOf}
 use Rattle.timing.proofs.Limits.{valid-tasks, constrained-tasks}
 use Rattle.ledger.specs.Ledger.{Covered, Ledger, Grows, Clear}
-use Rattle.partial.specs.Partial.{Partial, Whole}
+use Rattle.partial.specs.Partial.{Partial}
 use Rattle.region.specs.Region.{Within, Refuted, Met, Witness, Uncovered, Marked, Settled, Sooner}
 use Rattle.ledger.proofs.Growth.{grows-refl, grows-trans, grows-map, covered-grows, covered-back}
 use Rattle.ledger.proofs.Verdicts.{clear-uncovered}

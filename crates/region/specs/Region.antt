@@ -14,8 +14,7 @@ use Rattle.rules.specs.Rules.{Keeps, residenceBroken}
 use Rattle.rules.specs.Sets.{standing}
 use Rattle.timing.specs.Timing.{tasksIn}
 use Rattle.judge.specs.Judge.{PlacementOf}
-use Rattle.answer.specs.Answer.{maskAt}
-use Rattle.ledger.specs.Ledger.{Covered, Ledger, Grows, Clear}
+use Rattle.ledger.specs.Ledger.{Covered, Ledger, Grows}
 use Rattle.partial.specs.Partial.{Whole}
 
 -- the placements that have each task where `on` has it

@@ -11,6 +11,7 @@ use columns::Columns;
 use columns::Messages;
 use known::Known;
 use memo::Memo;
+use notes::Notes;
 use partial::Sizes;
 use partial::State;
 use schedule::Timing;
@@ -33,11 +34,11 @@ fn run<'a>(
     s: State,
     list: &mut [u8],
     places: usize,
-    notes: &mut [u32],
+    notes: &mut Notes,
     known: &mut Known,
     memo: &mut Memo,
 ) -> Ran
-    requires { ⌜ ((t : Table) × Lends t sizes (now timing) (now columns) (now messages) × Started t s × Learnt t (now columns) (now known) (now memo)) × (6 * places + 3 ≤ length (now list)) × (64 ≤ length (now notes)) ⌝ }
+    requires { ⌜ ((t : Table) × Lends t sizes (now timing) (now columns) (now messages) × Started t s × Learnt t (now columns) (now known) (now memo)) × (6 * places + 3 ≤ length (now list)) ⌝ }
     ensures { λ r. ⌜ ((t : Table) → Lends t sizes (now (timing .entry)) (now (columns .entry)) (now (messages .entry))
         → Started t s → Learnt t (now (columns .entry)) (now (known .entry)) (now (memo .entry)) → RanAs t places (now (list .entry)) (now (list .exit)) r) ⌝ }
 {

@@ -1,5 +1,5 @@
 -- From what the search has settled to what 01 asks of its answer. Assumes nothing.
-use mathlib.Core.Path.{_≡_, refl, sym, ap, subst, _∙_}
+use mathlib.Core.Path.{_≡_, sym, subst, _∙_}
 use mathlib.Core.Logic.{_⊎_, ⊎-elim}
 use mathlib.Core.Bool.{Bool, true, false, not}
 use mathlib.Core.List.{List}
@@ -8,7 +8,6 @@ use native.Mathlib.Omega.{arith}
 use native.Mathlib.Decide.{decLt}
 use lib.Dec.{T}
 use lib.ListN.{length, getD, List·getD-eq-default}
-use Rattle.mask.specs.Mask.{has}
 use Rattle.table.specs.declared.Table.{Table}
 use Rattle.table.specs.Sound.{Sound}
 use Rattle.schedule.specs.Periodic.{LateSet}
@@ -19,15 +18,15 @@ use Rattle.conflict.specs.Conflict.{Minimal}
 use Rattle.timing.specs.Timing.{tasksIn}
 use Rattle.judge.specs.Judge.{PlacementOf}
 use Rattle.judge.specs.Good.{Good}
-use Rattle.answer.specs.Answer.{maskAt, foundHead, noneHead}
+use Rattle.answer.specs.Answer.{maskAt}
 use Rattle.goal.specs.Order.{Earlier}
-use Rattle.goal.specs.Goal.{headOf, markOf, Listed}
-use Rattle.goal.proofs.First.{Before, earlier-before, before-earlier, found-head, none-before, none-head}
+use Rattle.goal.specs.Goal.{markOf, Listed}
+use Rattle.goal.proofs.First.{Before}
 use Rattle.goal.proofs.Mark.{HoldsListed, mark-complete, mark-cut, met-intro}
-use Rattle.ledger.specs.Ledger.{masksIn, Covered, Ledger}
+use Rattle.ledger.specs.Ledger.{masksIn, Covered}
 use Rattle.ledger.proofs.Masks.{masks-long, masks-get}
-use Rattle.region.specs.Region.{Refuted, Met, Witness, Uncovered, Marked, Settled, Sooner}
-use Rattle.region.proofs.Filling.{placed-at, placed-is, whole-placement}
+use Rattle.region.specs.Region.{Witness, Marked, Settled, Sooner}
+use Rattle.region.proofs.Filling.{placed-at, placed-is}
 use Rattle.first.specs.First.{InTime}
 
 -- a good placement, as the list of its processors

@@ -27,7 +27,6 @@ use Rattle.partial.specs.Partial.{Whole}
 use Rattle.endpoints.specs.Endpoints.{Names}
 use Rattle.region.specs.Region.{Witness, Settled, Sooner}
 use Rattle.region.proofs.Filling.{placed-at, placed-is, whole-placement}
-use Rattle.search.specs.declared.Answer.{Answer}
 use Rattle.search.specs.declared.Answer.the-variants.{Written}
 use Rattle.search.specs.Search.{Lists}
 use Rattle.first.specs.First.{InTime}

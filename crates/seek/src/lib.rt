@@ -4,7 +4,6 @@ ghost use mathlib.Core.Bool.{true};
 ghost use mathlib.Core.Logic.{_⊎_};
 ghost use Prim.Native.Nat.{_+_, _≤_, _<_};
 ghost use lib.Dec.{T};
-ghost use lib.ListN.{length};
 ghost use Rattle.mask.specs.Mask.{has};
 ghost use Rattle.table.specs.declared.Table.{Table};
 ghost use Rattle.rules.specs.Sets.{standing};
@@ -17,6 +16,7 @@ use columns::Messages;
 use known::Known;
 use ledger::Mode;
 use memo::Memo;
+use notes::Notes;
 use partial::Sizes;
 use partial::State;
 use schedule::Timing;
@@ -31,8 +31,7 @@ pub struct Sought {
 }
 
 // Whether the search gives up: it is limited, and its fuel is used up. Otherwise one unit is used.
-fn gives_up(limited: bool, notes: &mut [u32]) -> bool
-    requires { ⌜ 64 ≤ length (now notes) ⌝ }
+fn gives_up(limited: bool, notes: &mut Notes) -> bool
     ensures { λ r. ⌜ (r ≡ true → limited ≡ true) ⌝ }
 {
     if !limited {
@@ -47,8 +46,8 @@ fn gives_up(limited: bool, notes: &mut [u32]) -> bool
 }
 
 // At which of m processors a round over all of them begins: any, so that a restart goes another way.
-fn offset(m: usize, notes: &mut [u32]) -> usize
-    requires { ⌜ (0 < m) × (64 ≤ length (now notes)) ⌝ }
+fn offset(m: usize, notes: &mut Notes) -> usize
+    requires { ⌜ (0 < m) ⌝ }
     ensures { λ r. ⌜ r < m ⌝ }
 {
     notes::noise(notes) as usize % m
@@ -78,11 +77,11 @@ fn explore<'a>(
     mode: Mode,
     list: &mut [u8],
     count: usize,
-    notes: &mut [u32],
+    notes: &mut Notes,
     known: &mut Known,
     memo: &mut Memo,
 ) -> Sought
-    requires { ⌜ ((t : Table) × Lends t sizes (now timing) (now columns) (now messages) × Begins t (mode .listing) (mode .places) s (now list) count × Learnt t (now columns) (now known) (now memo)) × T (has (s .left) k) × (p < sizes .processors) × (64 ≤ length (now notes)) ⌝ }
+    requires { ⌜ ((t : Table) × Lends t sizes (now timing) (now columns) (now messages) × Begins t (mode .listing) (mode .places) s (now list) count × Learnt t (now columns) (now known) (now memo)) × T (has (s .left) k) × (p < sizes .processors) ⌝ }
     ensures { λ r. ⌜ ((t : Table) → Lends t sizes (now (timing .entry)) (now (columns .entry)) (now (messages .entry))
         → Begins t (mode .listing) (mode .places) s (now (list .entry)) count → Learnt t (now (columns .entry)) (now (known .entry)) (now (memo .entry)) → ExploredAs t (mode .listing) (mode .limited) (mode .places) s k p (now (list .entry)) count (now (list .exit)) r × Learnt t (now (columns .entry)) (now (known .exit)) (now (memo .exit))) ⌝ }
 {
@@ -142,11 +141,11 @@ pub fn seek<'a>(
     mode: Mode,
     list: &mut [u8],
     count: usize,
-    notes: &mut [u32],
+    notes: &mut Notes,
     known: &mut Known,
     memo: &mut Memo,
 ) -> Sought
-    requires { ⌜ ((t : Table) × Lends t sizes (now timing) (now columns) (now messages) × Begins t (mode .listing) (mode .places) s (now list) count × Learnt t (now columns) (now known) (now memo)) × (64 ≤ length (now notes)) ⌝ }
+    requires { ⌜ ((t : Table) × Lends t sizes (now timing) (now columns) (now messages) × Begins t (mode .listing) (mode .places) s (now list) count × Learnt t (now columns) (now known) (now memo)) ⌝ }
     ensures { λ r. ⌜ ((t : Table) → Lends t sizes (now (timing .entry)) (now (columns .entry)) (now (messages .entry))
         → Begins t (mode .listing) (mode .places) s (now (list .entry)) count → Learnt t (now (columns .entry)) (now (known .entry)) (now (memo .entry)) → SoughtIn t (mode .listing) (mode .limited) (mode .places) (standing (s .on)) (now (list .entry)) count (now (list .exit)) r × Learnt t (now (columns .entry)) (now (known .exit)) (now (memo .exit))) ⌝ }
 {

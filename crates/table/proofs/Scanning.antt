@@ -1,5 +1,5 @@
 -- The scan from record to record: its invariant, and the laws by which it goes on or ends. Assumes nothing.
-use mathlib.Core.Path.{_≡_, refl, sym, ap, _∙_}
+use mathlib.Core.Path.{_≡_, refl, ap, _∙_}
 use mathlib.Core.List.{List}
 use Prim.Native.Nat.{ℕ, zero, suc, _+_, _-_, _≤_, _<_}
 use native.Mathlib.Omega.{arith}
@@ -14,7 +14,6 @@ use Rattle.layout.specs.Format.{size}
 use Rattle.verdict.specs.Faults.{verdict}
 use Rattle.verdict.specs.Reached.{Reached}
 use Rattle.verdict.proofs.Taken.{accepted}
-use Rattle.table.specs.declared.Scanned.{Scanned}
 use Rattle.table.specs.Scan.{noRecords, withRecord, refusal, atEnd, after, scanFrom, scanOf}
 use Rattle.table.proofs.Progress.{reached-start, reached-next}
 

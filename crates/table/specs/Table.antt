@@ -9,7 +9,6 @@ use Rattle.layout.specs.declared.Progress.{Progress}
 use Rattle.layout.specs.Format.{field, count, place}
 use Rattle.table.specs.declared.Outcome.{Outcome}
 use Rattle.table.specs.declared.Outcome.the-variants.{Readable, Refused}
-use Rattle.table.specs.declared.Scanned.{Scanned}
 use Rattle.table.specs.declared.Table.{Table}
 use Rattle.table.specs.declared.Processors.{Processors}
 use Rattle.table.specs.declared.Tasks.{Tasks}

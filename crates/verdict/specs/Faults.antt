@@ -12,7 +12,7 @@ use Rattle.layout.specs.declared.Kind.the-variants.{Network, Processor, Task, C
 use Rattle.layout.specs.declared.Mark.{Mark}
 use Rattle.layout.specs.declared.Mark.the-variants.{Known, Unknown}
 use Rattle.verdict.specs.declared.Cause.{Cause}
-use Rattle.verdict.specs.declared.Cause.the-variants.{Cut, UnknownMark, OutOfOrder, TooMany, OutOfRange, NotInFile, PriorityUsed, PeriodsDiffer, MessageRepeated, HyperperiodTooLarge, Missing}
+use Rattle.verdict.specs.declared.Cause.the-variants.{Cut, UnknownMark, OutOfOrder, TooMany, OutOfRange, NotInFile, PriorityUsed, PeriodsDiffer, MessageRepeated, HyperperiodTooLarge}
 use Rattle.verdict.specs.declared.Verdict.{Verdict}
 use Rattle.verdict.specs.declared.Verdict.the-variants.{Taken, Refused}
 use Rattle.layout.specs.declared.Progress.{Progress}

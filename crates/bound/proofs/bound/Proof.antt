@@ -1,6 +1,5 @@
 -- The bound without listing first; where conflicts are listed and it gives the region up, once more with listing.
 use mathlib.Core.Logic.{inl, inr, ⊎-elim}
-use native.Mathlib.Omega.{arith}
 use borrow.Author.Needs.{needs}
 use Rattle.bound.proofs.Tightening.{bounded-not, bounded-then, bounded-first}
 use Rattle.bound.proofs.bound.Statement.{statement}
@@ -11,28 +10,26 @@ bound-spec =
     tie.close
     (tie.spec
     (λ c κs. search needs)  -- due-requires
-    (λ c. search needs)  -- same-length
     (λ c t l b k. (bounded-not (b .ledger), k))  -- returns
-    (λ c κs. let z = c .before .before .before .before .before .before .before .before .before .before .pre .0 in (z .0, z .1, z .2 .fits, z .2 .ledger, z .3))  -- try-all-requires
+    (λ c κs. let z = c .before .before .before .before .before .before .before .pre in (z .0, z .1, z .2 .fits, z .2 .ledger, z .3))  -- try-all-requires
     (λ c κs. search needs)  -- note-requires
-    (λ c. search needs)  -- same-length-2
-    (λ c. search needs)  -- same-length-3
+    (λ c. search needs)  -- same-length
     (λ c.
-    let j = c .before .before .before .before .before in
+    let n = c .before .before in
+    let j = n .before in
     let x = j .before .before .before in
     λ t l b k.
     let a = x .try-all .ensures t l (b .fits) (b .ledger) k in
-    (bounded-first (x .before .before .before .before .before .before .before .before .before .before .before .args .mode .listing) (x .try-all .result) (a .0) (⊎-elim (λ w. inl (w .1)) (λ w. inr (w .0 .left)) (j .if2 .came)) (c .before .before .before .before .if3 .taken), a .1))  -- returns-2
+    (bounded-first (x .before .before .before .before .before .before .before .before .args .mode .listing) (x .try-all .result) (a .0) (⊎-elim (λ w. inl (w .1)) (λ w. inr (w .0 .left)) (j .if2 .came)) (n .if3 .taken), a .1))  -- returns-2
     (λ c κs.
     let x = c .before .before .before .before .before .before .before in
-    let z = x .before .before .before .before .before .before .before .before .before .before .before .pre .0 in
+    let z = x .before .before .before .before .before .before .before .before .pre in
     let a = x .try-all .ensures (z .0) (z .1) (z .2 .fits) (z .2 .ledger) (z .3) in
     (z .0, z .1, z .2 .fits, a .0 .ledger, a .1))  -- try-all-requires-2
-    (λ c κs. let d = c .before .before .before .before .before .before .before .before .before .before .before .before .before .before .before .before .before .before in omega (arith, d .due .kept .1 .0, d .before .before .before .before .pre .1))  -- note-requires-2
-    (λ c. search needs)  -- same-length-4
-    (λ c. search needs)  -- same-length-5
+    (λ c κs. search needs)  -- note-requires-2
+    (λ c. search needs)  -- same-length-2
     (λ c.
-    let y = c .before .before .before .before .before .before in
+    let y = c .before .before .before .before in
     let x = y .before .before .before .before .before .before .before .before in
     λ t l b k.
     let a = x .try-all .ensures t l (b .fits) (b .ledger) k in

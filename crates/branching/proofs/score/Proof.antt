@@ -24,22 +24,19 @@ score-spec =
     (tie.spec
     (λ c κs. search needs)  -- wide-requires
     (λ c. search needs)  -- mul-wide
-    (λ c. search needs)  -- slice-read-wide
+    (λ c. search needs)  -- element-copy-out-wide
     (λ c κs. search needs)  -- wide-requires-2
     (λ c. search needs)  -- add-weight
     (λ c. search needs)  -- add-weight-2
-    (λ c. record { fits = omega (arith, square _ (c .before .before .before .before .pre .0)) })  -- mul-plain
-    (λ c. record { fits = omega (arith, square _ (c .before .before .before .before .pre .0)) })  -- mul-plain-2
+    (λ c. record { fits = omega (arith, square _ (c .before .before .before .pre .0)) })  -- mul-plain
+    (λ c. record { fits = omega (arith, square _ (c .before .before .before .pre .0)) })  -- mul-plain-2
     (λ c. search needs)  -- div-plain
     (λ c κs. search needs)  -- noise-requires
     (λ c.
-    let n = c .before .before in
-    let a = n .before .before .before .before .before .before in
-    record { fits = omega (arith, product (a .args .choices) (n .before .before .before .before .wide .result + n .before .before .wide2 .result + 1) (n .noise .result) (a .pre .0) (n .noise .ensures)) })  -- mul-result
+    let a = c .before .before .before .before .before in
+    record { fits = omega (arith, product (a .args .choices) (c .before .before .before .before .wide .result + c .before .before .wide2 .result + 1) (c .noise .result) (a .pre .0) (c .noise .ensures)) })  -- mul-result
     (λ c.
-    let n = c .before .before in
-    let a = n .before .before .before .before .before .before in
-    let w = n .before .before .before .before .wide .result + n .before .before .wide2 .result + 1 in
-    record { fits = omega (arith, quotient (a .args .choices) w (a .pre .0), product (a .args .choices) w (n .noise .result) (a .pre .0) (n .noise .ensures)) })  -- add-result
-    (λ c. search needs)  -- same-length
+    let a = c .before .before .before .before .before in
+    let w = c .before .before .before .before .wide .result + c .before .before .wide2 .result + 1 in
+    record { fits = omega (arith, quotient (a .args .choices) w (a .pre .0), product (a .args .choices) w (c .noise .result) (a .pre .0) (c .noise .ensures)) })  -- add-result
     (λ c. search needs))  -- returns

@@ -1,7 +1,6 @@
 -- `late_as_number` meets its contract. Assumes nothing.
 use mathlib.Core.Path.{sym, _∙_}
 use native.Mathlib.Omega.{arith}
-use borrow.Author.Needs.{needs}
 use Rattle.schedule.proofs.TasksOfArrays.{with-set}
 use Rattle.conflict.proofs.Counting.{late-is}
 use Rattle.conflict.proofs.late_as_number.Statement.{statement}

@@ -11,5 +11,4 @@ cover-spec =
     (λ c κs. search needs)  -- copy-notes-requires
     (λ c κs. search needs)  -- seek-requires
     (λ c. search needs)  -- same-length
-    (λ c. search needs)  -- same-length-2
-    (λ c t l b k. let x = c .before .before .before .before in let y = x .seek .ensures t l b k in (covering (x .seek .result) (y .0), y .1)))  -- returns
+    (λ c t l b k. let x = c .before .before in let y = x .seek .ensures t l b k in (covering (x .seek .result) (y .0), y .1)))  -- returns

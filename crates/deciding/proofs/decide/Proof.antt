@@ -1,11 +1,10 @@
 -- The fuel grows by half until it is at least 87,000.
-use mathlib.Core.Path.{_≡_, refl, sym, _∙_}
+use mathlib.Core.Path.{refl, sym, _∙_}
 use mathlib.Core.Bool.{false≢true}
 use mathlib.Core.Logic.{⊎-elim}
 use Prim.Native.Nat.{_-_, _≤_}
 use native.Mathlib.Omega.{arith}
 use borrow.Author.Needs.{needs}
-use lib.ListN.{length, length-set}
 use Rattle.table.specs.declared.Table.{Table}
 use Rattle.region.specs.Lends.{Lends}
 use Rattle.region.specs.Begins.{Ready}
@@ -16,8 +15,7 @@ use Rattle.deciding.proofs.decide.Tie as tie
 
 abbrev Inv-loop : tie.InvT-loop
 Inv-loop timing columns messages sizes s notes₀ known₀ memo₀ fuel₀ notes known memo fuel =
-    (300 ≤ fuel) × (length notes ≡ length notes₀)
-    × ((t : Table) → Lends t sizes timing columns messages → Ready t s → Learnt t columns known₀ memo₀ → Learnt t columns known memo)
+    (300 ≤ fuel) × ((t : Table) → Lends t sizes timing columns messages → Ready t s → Learnt t columns known₀ memo₀ → Learnt t columns known memo)
 
 abbrev μ-loop : tie.MeasureT-loop
 μ-loop timing columns messages sizes s notes₀ known₀ memo₀ fuel₀ notes known memo fuel = 87000 - fuel
@@ -28,29 +26,27 @@ decide-spec =
     (tie.spec
     Inv-loop
     μ-loop
-    (λ c. (omega arith, refl, λ t l w k. k))  -- loop-holds
+    (λ c. (omega arith, λ t l w k. k))  -- loop-holds
     (λ c. search needs)  -- slice-write-notes
     (λ c κs.
     let i = c .before .before .before .before in
-    let a = i .before .before .pre in
-    ((a .0 .0, a .0 .1, a .0 .2, i .loop .inv .2 (a .0 .0) (a .0 .1) (a .0 .2) (a .0 .3)), omega (arith, a .1, i .loop .inv .1, length-set (i .loop .notes) 27 (i .loop .fuel))))  -- attempt-requires
-    (λ c. let i = c .before .before .before .before .before .before .before .before .before in c .before .before .before .before .attempt .kept .1 .1 .1 .1 .1 .1 .0 ∙ length-set (i .loop .notes) 27 (i .loop .fuel) ∙ i .loop .inv .1)  -- same-length
+    let a = i .before .pre in
+    (a .0, a .1, a .2, i .loop .inv .1 (a .0) (a .1) (a .2) (a .3)))  -- attempt-requires
     (λ c t l w k.
-    let x = c .before .before .before .before in
-    let y = x .attempt .ensures t l w (x .before .before .before .before .before .loop .inv .2 t l w k) in
+    let x = c .before .before in
+    let y = x .attempt .ensures t l w (x .before .before .before .before .before .loop .inv .1 t l w k) in
     (decided _ (x .attempt .result) (y .0) (λ e. ⊎-elim (λ u. absurd (false≢true (sym e ∙ u .taken))) (λ u. u .1 .taken) (c .before .if1 .came)), y .1))  -- returns
     (λ c. search needs)  -- add-fuel
     (λ c. search needs)  -- loop-less
     (λ c.
-    let x = c .before .before .before .before in
+    let x = c .before .before in
     let i = x .before .before .before .before .before in
-    (omega (arith, i .loop .inv .0), x .attempt .kept .1 .1 .1 .1 .1 .1 .0 ∙ length-set (i .loop .notes) 27 (i .loop .fuel) ∙ i .loop .inv .1, λ t l w k. x .attempt .ensures t l w (i .loop .inv .2 t l w k) .1))  -- loop-again
+    (omega (arith, i .loop .inv .0), λ t l w k. x .attempt .ensures t l w (i .loop .inv .1 t l w k) .1))  -- loop-again
     (λ c κs.
     let i = c .before .before .before .before in
-    let a = i .before .before .pre in
-    ((a .0 .0, a .0 .1, a .0 .2, i .loop .inv .2 (a .0 .0) (a .0 .1) (a .0 .2) (a .0 .3)), omega (arith, a .1, i .loop .inv .1)))  -- attempt-requires-2
-    (λ c. c .before .before .before .attempt2 .kept .1 .1 .1 .1 .1 .1 .0 ∙ c .before .before .before .before .before .before .before .before .loop .inv .1)  -- same-length-2
+    let a = i .before .pre in
+    (a .0, a .1, a .2, i .loop .inv .1 (a .0) (a .1) (a .2) (a .3)))  -- attempt-requires-2
     (λ c t l w k.
-    let x = c .before .before .before in
-    let y = x .attempt2 .ensures t l w (x .before .before .before .before .before .loop .inv .2 t l w k) in
+    let x = c .before in
+    let y = x .attempt2 .ensures t l w (x .before .before .before .before .before .loop .inv .1 t l w k) in
     (decided _ (x .attempt2 .result) (y .0) (y .0 .certain refl), y .1)))  -- returns-2

@@ -30,7 +30,7 @@ first-below t = and 5 first-kinds.ps (falls 5 first-kinds.ps _<_ μ-first t) fir
 
 abbrev first-Inv-loop : first-lts.InvT-loop
 first-Inv-loop timing columns messages sizes s k witness list₀ places count cut notes₀ known₀ memo₀ on at₀ marked₀ p₀ list notes known memo at marked p =
-    (p ≤ sizes .processors) × (length list ≡ length list₀) × (length notes ≡ length notes₀)
+    (p ≤ sizes .processors) × (length list ≡ length list₀)
     × ((t : Table) → Lends t sizes timing columns messages → Placing t places s k witness list₀ count → Learnt t columns known₀ memo₀
     → Passing t places s k witness list₀ count cut p list at marked × Learnt t columns known memo)
 
@@ -51,43 +51,41 @@ pub +first-spec : {M : Type 1} → statement M
     first.Post
     first-Inv-loop
     first-μ-loop
-    (λ c u l w k. (first-whole w (l .rules .sound) (omega (arith, l .rules .tasks, c .if1 .taken)) (c .before .before .before .before .before .args .cut), k))  -- returns
-    (λ c. (omega arith, refl, refl, λ u l w k. (passing-start w (c .before .before .before .before .before .args .cut), k)))  -- loop-holds
+    (λ c u l w k. (first-whole w (l .rules .sound) (omega (arith, l .rules .tasks, c .if1 .taken)) (c .before .before .before .before .args .cut), k))  -- returns
+    (λ c. (omega arith, refl, λ u l w k. (passing-start w (c .before .before .before .before .args .cut), k)))  -- loop-holds
     (λ c κs.
     let i = c .before .before .before .before .before .before in
-    let a = i .before .before .before .before .before .before .pre .1 in
-    let b = a .0 in
-    let v = i .loop .inv .3 (b .0) (b .1) (b .2) (b .3) in
-    ((b .0, b .1, passing-placing (b .2) (v .0), passing-below (b .2) (v .0), v .1), omega (arith, b .2 .upto, b .1 .rules .tasks, i .before .if1 .left), c .before .before .before .before .if2 .taken, omega (arith, a .1, i .loop .inv .2)))  -- try-processor-requires
+    let b = i .before .before .before .before .before .pre .1 in
+    let v = i .loop .inv .2 (b .0) (b .1) (b .2) (b .3) in
+    ((b .0, b .1, passing-placing (b .2) (v .0), passing-below (b .2) (v .0), v .1), omega (arith, b .2 .upto, b .1 .rules .tasks, i .before .if1 .left), c .before .before .before .before .if2 .taken))  -- try-processor-requires
     (λ c κs.
-    let i = c .before .before .before .before .before .before .before .before .before .before .before .before in
-    let a = i .before .before .before .before .before .before .pre .1 .0 in
-    ((a .0, a .1 .rules, a .2 .fits), a .2 .open-from _ (omega arith) (omega (arith, a .2 .upto, a .1 .rules .tasks, i .before .if1 .left)), c .before .before .before .before .before .before .before .before .before .before .if2 .taken))  -- step-requires
-    (λ c. let a = c .before .before .before .before .before .before .before .before .before .before .before .before .before .before .before .before .before .before .before .before .before .pre .1 .0 in omega (arith, a .2 .upto, a .1 .rules .sound .tasks .most))  -- add-first
+    let i = c .before .before .before .before .before .before .before .before .before .before in
+    let a = i .before .before .before .before .before .pre .1 in
+    ((a .0, a .1 .rules, a .2 .fits), a .2 .open-from _ (omega arith) (omega (arith, a .2 .upto, a .1 .rules .tasks, i .before .if1 .left)), c .before .before .before .before .before .before .before .before .if2 .taken))  -- step-requires
+    (λ c. let a = c .before .before .before .before .before .before .before .before .before .before .before .before .before .before .before .before .before .before .pre .1 in omega (arith, a .2 .upto, a .1 .rules .sound .tasks .most))  -- add-first
     (λ c κs.
-    let x = c .before .before .before .before .before .before .before .before .before .before .before .before in
+    let x = c .before .before .before .before .before .before .before .before .before .before in
     let i = x .before .before .before .before .before .before .before in
-    let a = i .before .before .before .before .before .before .pre in
-    let u = a .1 .0 .0 in
-    let l = a .1 .0 .1 in
-    let w = a .1 .0 .2 in
-    let v = i .loop .inv .3 u l w (a .1 .0 .3) in
+    let a = i .before .before .before .before .before .pre in
+    let u = a .1 .0 in
+    let l = a .1 .1 in
+    let w = a .1 .2 in
+    let v = i .loop .inv .2 u l w (a .1 .3) in
     let y = x .try-processor .ensures u l (passing-placing w (v .0)) (passing-below w (v .0)) (v .1) in
     let e = c .before .before .before .before .before .before .before .if3 .taken in
-    let below : i .before .before .before .before .before .before .args .k < u .tasks .count = omega (arith, w .upto, l .rules .tasks, i .before .if1 .left) in
+    let below : i .before .before .before .before .before .args .k < u .tasks .count = omega (arith, w .upto, l .rules .tasks, i .before .if1 .left) in
     let good = taken-good w (v .0) _ (x .try-processor .result) (y .0) e in
     let step = step-taken (l .rules .sound) w (i .loop .p) good (c .before .before .before .before .before .before .step .result .allowed) (c .before .before .before .before .before .before .step .ensures u (l .rules) (w .fits)) in
-    (omega (arith, a .0, below, l .rules .tasks), ((u, l, placing-next (l .rules .sound) w below (taken-ledger w (v .0) _ (x .try-processor .result) (y .0) e) good step, y .1), omega (arith, a .1 .1, i .loop .inv .2, x .try-processor .kept .1 .1 .1 .1 .1 .1 .1 .1 .1 .1 .1 .1 .0))))  -- first-requires
-    (λ c. c .before .before .before .before .first .kept .1 .1 .1 .1 .1 .1 .1 .0 ∙ c .before .before .before .before .before .before .before .before .before .before .before .before .before .before .before .before .before .try-processor .kept .1 .1 .1 .1 .1 .1 .1 .1 .0 ∙ c .before .before .before .before .before .before .before .before .before .before .before .before .before .before .before .before .before .before .before .before .before .before .before .before .loop .inv .1)  -- same-length
-    (λ c. c .before .before .before .before .first .kept .1 .1 .1 .1 .1 .1 .1 .1 .1 .1 .1 .0 ∙ c .before .before .before .before .before .before .before .before .before .before .before .before .before .before .before .before .before .try-processor .kept .1 .1 .1 .1 .1 .1 .1 .1 .1 .1 .1 .1 .0 ∙ c .before .before .before .before .before .before .before .before .before .before .before .before .before .before .before .before .before .before .before .before .before .before .before .before .loop .inv .2)  -- same-length-2
+    (omega (arith, a .0, below, l .rules .tasks), (u, l, placing-next (l .rules .sound) w below (taken-ledger w (v .0) _ (x .try-processor .result) (y .0) e) good step, y .1)))  -- first-requires
+    (λ c. c .before .before .first .kept .1 .1 .1 .1 .1 .1 .1 .0 ∙ c .before .before .before .before .before .before .before .before .before .before .before .before .before .try-processor .kept .1 .1 .1 .1 .1 .1 .1 .1 .0 ∙ c .before .before .before .before .before .before .before .before .before .before .before .before .before .before .before .before .before .before .before .before .loop .inv .1)  -- same-length
     (λ c u l w k.
-    let f = c .before .before .before .before in
-    let x = f .before .before .before .before .before .before .before .before .before .before .before .before .before in
+    let f = c .before .before in
+    let x = f .before .before .before .before .before .before .before .before .before .before .before in
     let i = x .before .before .before .before .before .before .before in
-    let v = i .loop .inv .3 u l w k in
+    let v = i .loop .inv .2 u l w k in
     let y = x .try-processor .ensures u l (passing-placing w (v .0)) (passing-below w (v .0)) (v .1) in
     let e = f .before .before .before .before .before .before .before .before .if3 .taken in
-    let below : i .before .before .before .before .before .before .args .k < u .tasks .count = omega (arith, w .upto, l .rules .tasks, i .before .if1 .left) in
+    let below : i .before .before .before .before .before .args .k < u .tasks .count = omega (arith, w .upto, l .rules .tasks, i .before .if1 .left) in
     let good = taken-good w (v .0) _ (x .try-processor .result) (y .0) e in
     let step = step-taken (l .rules .sound) w (i .loop .p) good (f .before .before .before .before .before .before .before .step .result .allowed) (f .before .before .before .before .before .before .before .step .ensures u (l .rules) (w .fits)) in
     let z = f .first .ensures u l (placing-next (l .rules .sound) w below (taken-ledger w (v .0) _ (x .try-processor .result) (y .0) e) good step) (y .1) in
@@ -95,17 +93,15 @@ pub +first-spec : {M : Type 1} → statement M
     (λ c. search needs)  -- add-p
     (λ c. omega arith)  -- loop-less
     (λ c.
-    let x = c .before .before .before .before .before in
+    let x = c .before .before .before in
     let i = x .before .before .before .before .before .before .before in (
       omega arith,
       x .try-processor .kept .1 .1 .1 .1 .1 .1 .1 .1 .0 ∙ i .loop .inv .1,
-      x .try-processor .kept .1 .1 .1 .1 .1 .1 .1 .1 .1 .1 .1 .1 .0 ∙ i .loop .inv .2,
-      λ u l w k. let v = i .loop .inv .3 u l w k in
+      λ u l w k. let v = i .loop .inv .2 u l w k in
           let y = x .try-processor .ensures u l (passing-placing w (v .0)) (passing-below w (v .0)) (v .1) in
           (passing-next w (v .0) _ (x .try-processor .result) (y .0) (omega (arith, w .upto, l .rules .tasks, i .before .if1 .left)) (c .if3 .left), y .1),
     ))  -- loop-again
-    (λ c. search needs)  -- same-length-3
-    (λ c. search needs)  -- same-length-4
+    (λ c. search needs)  -- same-length-2
     (λ c u l w k.
     let i = c .before .before in
-    absurd (not-missed w (i .loop .inv .3 u l w k .0) (omega (arith, w .upto, l .rules .tasks, i .before .if1 .left)) (omega (arith, l .rules .processors, c .if2 .left))))  -- returns-3
+    absurd (not-missed w (i .loop .inv .2 u l w k .0) (omega (arith, w .upto, l .rules .tasks, i .before .if1 .left)) (omega (arith, l .rules .processors, c .if2 .left))))  -- returns-3

@@ -9,7 +9,7 @@ pub pass-over-spec : {M : Type 1} → statement M
 pass-over-spec =
     tie.close
     (tie.spec
-    (λ c κs. let a = c .before .before .before .before .pre in ((a .0 .0, a .0 .1, a .0 .2, a .0 .3 .knows), a .1, a .2))  -- enter-requires
+    (λ c κs. let a = c .before .before .before .pre in ((a .0 .0, a .0 .1, a .0 .2, a .0 .3 .knows), a .1, a .2))  -- enter-requires
     (λ c. search needs)  -- same-length
     (λ c t l b k.
     let e = c .before .before .before .before .before in
@@ -17,13 +17,12 @@ pass-over-spec =
     (covering-closed (e .enter .result) (x .0) (not-true (e .enter .result .passes) (c .if1 .taken)), record { knows = x .1; keeps = k .keeps }))  -- returns
     (λ c κs.
     let e = c .before .before .before .before .before .before .before .before .before in
-    let a = e .before .before .before .before .before .pre in
+    let a = e .before .before .before .before .pre in
     let x = e .enter .ensures (a .0 .0) (a .0 .1) (a .0 .2) (a .0 .3 .knows) in
-    ((a .0 .0, a .0 .1, entered-begins (e .enter .result) (x .0) (not-false (e .enter .result .passes) (c .before .before .before .before .if1 .left)), record { knows = x .1; keeps = a .0 .3 .keeps }), a .3))  -- cover-requires
+    (a .0 .0, a .0 .1, entered-begins (e .enter .result) (x .0) (not-false (e .enter .result .passes) (c .before .before .before .before .if1 .left)), record { knows = x .1; keeps = a .0 .3 .keeps }))  -- cover-requires
     (λ c. search needs)  -- same-length-2
-    (λ c. search needs)  -- same-length-3
     (λ c t l b k.
-    let d = c .before .before .before .before in
+    let d = c .before .before in
     let e = d .before .before .before .before .before .before .before .before .before .before in
     let x = e .enter .ensures t l b (k .knows) in
     let f = not-false (e .enter .result .passes) (d .before .before .before .before .before .if1 .left) in

@@ -11,9 +11,8 @@ blame-spec =
     tie.close
     (tie.spec
     (λ c. search needs)  -- mul-heavier
-    (λ c. search needs)  -- slice-read-heavier
+    (λ c. search needs)  -- element-copy-out-heavier
     (λ c κs. search needs)  -- heavier-requires
     (λ c. search needs)  -- mul-notes
-    (λ c. search needs)  -- slice-write-notes
-    (λ c. search needs)  -- same-length
-    (λ c. let a = c .before .before .before .args in ap (λ (x : ℕ). set (a .notes .now) (a .k) x) (c .heavier .ensures)))  -- returns
+    (λ c. search needs)  -- element-write-notes
+    (λ c. let a = c .before .before .args in ap (λ (x : ℕ). set (a .notes .now) (a .k) x) (c .heavier .ensures)))  -- returns

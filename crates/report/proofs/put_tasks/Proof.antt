@@ -3,7 +3,6 @@ use mathlib.Core.Path.{_≡_, refl, _∙_}
 use Prim.Native.Nat.{_+_, _*_, _-_, _≤_}
 use native.Mathlib.Omega.{arith}
 use borrow.Author.Needs.{needs}
-use Prim.Native.Nat.{_<_}
 use lib.ListN.{length, getD}
 use Rattle.text.specs.Text.{pieces, Put}
 use Rattle.text.proofs.Laws.{put-none, put-more}

@@ -24,16 +24,15 @@ run-table-spec =
     (guide-limits h sizes (t .timing-of .ensures), omega (arith, h .processors .most, sizes .processors), omega (arith, h .messages .most, sizes .messages)))  -- guided-requires
     (λ c. search needs)  -- array-write-notes
     (λ c. search needs)  -- array-write-notes-2
-    (λ c. search needs)  -- slice-aggregate-run
     (λ c κs.
     let g = c .before .before .before .before .before .before .before in
     let v = g .before .before .before .before in
     let b = v .before .before .before .before .before .before in
     let l = lends-table (b .pre .0) (v .before .before .before .before .sizes-of .ensures) (v .before .before .before .timing-of .ensures) (v .before .before .columns-of .ensures) (v .before .messages-of .ensures) (g .guided .ensures) in
-    ((b .args .table, l, v .start .ensures, learnt-start (knows-start _ 16384)), b .pre .1, search needs))  -- run-requires
+    ((b .args .table, l, v .start .ensures, learnt-start (knows-start _ 16384)), b .pre .1))  -- run-requires
     (λ c. search needs)  -- same-length
     (λ c.
-    let r = c .before .before .before in
+    let r = c .before .before in
     let g = r .before .before .before .before .before .before .before .before in
     let v = g .before .before .before .before in
     let b = v .before .before .before .before .before .before in

@@ -51,7 +51,7 @@ seek-below t = and 5 seek-kinds.ps (falls 5 seek-kinds.ps _<_ μ-seek t) seek.Pr
 
 abbrev seek-Inv-loop : seek-lts.InvT-loop
 seek-Inv-loop timing columns messages sizes s mode list₀ count notes₀ known₀ memo₀ on k first at₀ i₀ list notes known memo at i =
-    (i ≤ sizes .processors) × (length list ≡ length list₀) × (length notes ≡ length notes₀)
+    (i ≤ sizes .processors) × (length list ≡ length list₀)
     × ((t : Table) → Lends t sizes timing columns messages → Begins t (mode .listing) (mode .places) s list₀ at₀ → Learnt t columns known₀ memo₀
     → Seeking t (mode .listing) (mode .places) s k list₀ at₀ first (sizes .processors) i list at × Learnt t columns known memo)
 
@@ -69,11 +69,11 @@ pub +explore+seek-spec : {M : Type 1} → statement M
 )
     (explore-at t)
     explore.Post
-    (λ c κs. let a = c .before .before .before .pre .1 in (a .0 .0, asks (a .0 .1 .rules) (a .0 .2 .fits) (a .2)))  -- twin-requires
+    (λ c κs. let a = c .before .before .pre .1 in (a .0 .0, asks (a .0 .1 .rules) (a .0 .2 .fits) (a .2)))  -- twin-requires
     (λ c u l b k.
     let w = c .before in
-    (explored-twin _ b (w .twin .ensures u (asks (l .rules) (b .fits) (w .before .before .before .before .pre .1 .2))) (c .if1 .taken) _, k))  -- returns
-    (λ c κs. let a = c .before .before .before .before .before .before .before .pre .1 in ((a .0 .0, a .0 .1, a .0 .2, a .0 .3 .knows), a .1, a .2))  -- enter-requires
+    (explored-twin _ b (w .twin .ensures u (asks (l .rules) (b .fits) (w .before .before .before .pre .1 .2))) (c .if1 .taken) _, k))  -- returns
+    (λ c κs. let a = c .before .before .before .before .before .before .pre .1 in ((a .0 .0, a .0 .1, a .0 .2, a .0 .3 .knows), a .1, a .2))  -- enter-requires
     (λ c. search needs)  -- same-length
     (λ c u l b k.
     let w = c .before .before .before .before in
@@ -81,17 +81,16 @@ pub +explore+seek-spec : {M : Type 1} → statement M
     (explored-closed (w .enter .result) (e .0) (not-true (w .enter .result .passes) (c .if2 .taken)) _, record { knows = e .1; keeps = k .keeps }))  -- returns-2
     (λ c κs.
     let w = c .before .before .before .before .before .before .before .before .before in
-    let a = w .before .before .before .before .before .before .before .before .pre in
+    let a = w .before .before .before .before .before .before .before .pre in
     let k = a .1 .0 .3 in
     let e = w .enter .ensures (a .1 .0 .0) (a .1 .0 .1) (a .1 .0 .2) (k .knows) in
     let f = not-false (w .enter .result .passes) (c .before .before .before .before .before .if2 .left) in (
       omega (arith, a .0, explored-falls (w .enter .result) (e .0) f (a .1 .1)),
-      ((a .1 .0 .0, a .1 .0 .1, explored-begins (w .enter .result) (e .0) f, record { knows = e .1; keeps = k .keeps }), a .1 .3),
+      (a .1 .0 .0, a .1 .0 .1, explored-begins (w .enter .result) (e .0) f, record { knows = e .1; keeps = k .keeps }),
     ))  -- seek-requires
     (λ c. search needs)  -- same-length-2
-    (λ c. search needs)  -- same-length-3
     (λ c u l b k.
-    let v = c .before .before .before .before in
+    let v = c .before .before in
     let w = v .before .before .before .before .before .before .before .before .before .before in
     let e = w .enter .ensures u l b (k .knows) in
     let f = not-false (w .enter .result .passes) (v .before .before .before .before .before .before .if2 .left) in
@@ -117,108 +116,80 @@ pub +explore+seek-spec : {M : Type 1} → statement M
     seek.Post
     seek-Inv-loop
     seek-μ-loop
-    (λ c κs. c .before .before .before .before .pre .1 .1)  -- gives-up-requires
-    (λ c. search needs)  -- same-length
-    (λ c u l b k. (sought-neither b (c .before .before .before .gives-up .ensures (c .if1 .taken)), k))  -- returns
-    (λ c. search needs)  -- same-length-2
+    (λ c κs. search needs)  -- gives-up-requires
+    (λ c u l b k. (sought-neither b (c .before .gives-up .ensures (c .if1 .taken)), k))  -- returns
     (λ c u l b k. (sought-end b (c .if2 .taken), k))  -- returns-2
-    (λ c κs.
-    let g = c .before .before .before .before .before .before .before .before .before in
-    let a = g .before .before .before .before .before .pre .1 in
-    (a .0, omega (arith, a .1, g .gives-up .kept .1 .0)))  -- bound-requires
-    (λ c. search needs)  -- same-length-3
-    (λ c. search needs)  -- same-length-4
+    (λ c κs. c .before .before .before .before .before .before .before .before .before .before .before .pre .1)  -- bound-requires
+    (λ c. search needs)  -- same-length
     (λ c u l b k.
-    let w = c .before .before .before .before .before in
+    let w = c .before .before .before in
     let m = w .bound .ensures u l b k in
     (bounded-hopeless (w .bound .result) (m .0) (c .if3 .taken) _, m .1))  -- returns-3
     (λ c κs.
+    let w = c .before .before .before .before .before .before in
+    let a = w .before .before .before .before .before .before .before .before .before .before .before .before .pre .1 in
+    let m = w .bound .ensures (a .0) (a .1) (a .2) (a .3) in
+    ((a .0, a .1, a .2 .fits, m .1 .knows), omega (arith, w .before .before .before .before .before .if2 .left), omega (arith, m .0 .ledger .room, m .0 .ledger .long)))  -- pick-requires
+    (λ c κs.
     let w = c .before .before .before .before .before .before .before .before in
-    let g = w .before .before .before .before .before .before .before .before .before .before in
-    let a = g .before .before .before .before .before .pre .1 in
-    let m = w .bound .ensures (a .0 .0) (a .0 .1) (a .0 .2) (a .0 .3) in (
-      (a .0 .0, a .0 .1, a .0 .2 .fits, m .1 .knows),
-      omega (arith, w .before .before .before .before .before .if2 .left),
-      omega (arith, m .0 .ledger .room, m .0 .ledger .long),
-      omega (arith, a .1, g .gives-up .kept .1 .0, w .bound .kept .1 .1 .1 .1 .1 .1 .1 .1 .0),
-    ))  -- pick-requires
+    let l = w .before .before .before .before .before .before .before .before .before .before .before .before .pre .1 .1 in
+    omega (arith, l .rules .processors, l .rules .sound .processors .some))  -- offset-requires
+    (λ c. (omega arith, refl, λ u l b k. (seeking-start b (c .before .before .pick .result) (c .offset .result) _ (c .offset .ensures), k)))  -- loop-holds
     (λ c κs.
-    let n = c .before .before .before in
-    let w = n .before .before .before .before .before .before .before .before .before in
-    let g = w .before .before .before .before .before .before .before .before .before .before in
-    let a = g .before .before .before .before .before .pre .1 in
-    (omega (arith, a .0 .1 .rules .processors, a .0 .1 .rules .sound .processors .some), omega (arith, a .1, g .gives-up .kept .1 .0, w .bound .kept .1 .1 .1 .1 .1 .1 .1 .1 .0, n .pick .kept .1 .1 .1 .1 .1 .1 .1 .1 .0)))  -- offset-requires
-    (λ c. (omega arith, refl, refl, λ u l b k. (seeking-start b (c .before .before .before .before .before .before .pick .result) (c .before .before .offset .result) _ (c .before .before .offset .ensures), k)))  -- loop-holds
-    (λ c κs.
-    let o = c .before .before .before .before .before in
-    let l = o .before .before .before .before .before .before .before .before .before .before .before .before .before .before .before .before .before .before .before .before .before .before .before .before .before .before .before .before .pre .1 .0 .1 in
+    let o = c .before .before .before in
+    let w = o .before .before .before .before .before .before .before .before .before in
+    let l = w .before .before .before .before .before .before .before .before .before .before .before .before .pre .1 .1 in
     (o .offset .ensures, c .if4 .taken, omega (arith, l .rules .processors, l .rules .sound .processors .most)))  -- turned-requires
     (λ c κs.
     let i = c .before .before .before .before .before .before .before in
-    let n = i .before .before .before .before .before .before .before in
-    let w = n .before .before .before .before .before .before .before .before .before in
-    let g = w .before .before .before .before .before .before .before .before .before .before in
-    let a = g .before .before .before .before .before .pre in
-    let u = a .1 .0 .0 in
-    let l = a .1 .0 .1 in
-    let m = w .bound .ensures u l (a .1 .0 .2) (a .1 .0 .3) in
-    let b = bounded-begins (w .bound .result) (m .0) (a .1 .0 .2) in
-    let v = i .loop .inv .3 u l b (record { knows = n .pick .ensures .1 u l (b .fits) (m .1 .knows); keeps = m .1 .keeps }) in (
-      omega (arith, a .0),
-      (
-        (u, l, seeking-begins (v .0) b, v .1),
-        n .pick .ensures .0,
-        c .before .before .before .before .turned .ensures .0,
-        omega (arith, a .1 .1, g .gives-up .kept .1 .0, w .bound .kept .1 .1 .1 .1 .1 .1 .1 .1 .0, n .pick .kept .1 .1 .1 .1 .1 .1 .1 .1 .0, i .before .before .before .offset .kept .1 .0, i .loop .inv .2),
-      ),
-    ))  -- explore-requires
-    (λ c. let i = c .before .before .before .before .before .before .before .before .before .before .before .before .before .before in c .before .before .before .before .before .before .explore .kept .1 .1 .1 .1 .1 .1 .1 .1 .0 ∙ i .loop .inv .1 ∙ i .before .before .before .before .before .before .before .before .before .before .before .before .before .before .before .before .bound .kept .1 .1 .1 .1 .1 .1 .0)  -- same-length-5
+    let n = i .before .before .before in
+    let w = n .before .before .before .before .before .before .before in
+    let a = w .before .before .before .before .before .before .before .before .before .before .before .before .pre in
+    let u = a .1 .0 in
+    let l = a .1 .1 in
+    let m = w .bound .ensures u l (a .1 .2) (a .1 .3) in
+    let b = bounded-begins (w .bound .result) (m .0) (a .1 .2) in
+    let v = i .loop .inv .2 u l b (record { knows = n .pick .ensures .1 u l (b .fits) (m .1 .knows); keeps = m .1 .keeps }) in
+    (omega (arith, a .0), ((u, l, seeking-begins (v .0) b, v .1), n .pick .ensures .0, c .before .before .before .before .turned .ensures .0)))  -- explore-requires
     (λ c.
-    let i = c .before .before .before .before .before .before .before .before .before .before .before .before .before .before in
-    let n = i .before .before .before .before .before .before .before in
-    c .before .before .before .before .before .before .explore .kept .1 .1 .1 .1 .1 .1 .1 .1 .1 .1 .0 ∙ i .loop .inv .2 ∙ i .before .before .before .offset .kept .1 .0 ∙ n .pick .kept .1 .1 .1 .1 .1 .1 .1 .1 .0 ∙ n .before .before .before .before .before .before .before .before .before .bound .kept .1 .1 .1 .1 .1 .1 .1 .1 .0 ∙ n .before .before .before .before .before .before .before .before .before .before .before .before .before .before .before .before .before .before .before .gives-up .kept .1 .0)  -- same-length-6
-    (λ c u l b k.
-    let x = c .before .before .before .before .before .before in
+    let x = c .before .before .before .before in
     let i = x .before .before .before .before .before .before .before .before in
-    let n = i .before .before .before .before .before .before .before in
-    let w = n .before .before .before .before .before .before .before .before .before in
+    x .explore .kept .1 .1 .1 .1 .1 .1 .1 .1 .0 ∙ i .loop .inv .1 ∙ i .before .before .before .before .before .before .before .before .before .before .bound .kept .1 .1 .1 .1 .1 .1 .0)  -- same-length-2
+    (λ c u l b k.
+    let x = c .before .before .before .before in
+    let i = x .before .before .before .before .before .before .before .before in
+    let n = i .before .before .before in
+    let w = n .before .before .before .before .before .before .before in
     let m = w .bound .ensures u l b k in
     let d = bounded-begins (w .bound .result) (m .0) b in
-    let v = i .loop .inv .3 u l d (record { knows = n .pick .ensures .1 u l (b .fits) (m .1 .knows); keeps = m .1 .keeps }) in
+    let v = i .loop .inv .2 u l d (record { knows = n .pick .ensures .1 u l (b .fits) (m .1 .knows); keeps = m .1 .keeps }) in
     let e = x .explore .ensures u l (seeking-begins (v .0) d) (v .1) in
     (bounded-then (w .bound .result) (m .0) (x .explore .result) (seeking-stop (v .0) (x .explore .result) (e .0) (not-true (x .explore .result .none) (c .if5 .taken))), e .1))  -- returns-4
     (λ c. search needs)  -- add-i
-    (λ c. omega (arith, c .before .before .before .before .before .before .before .before .before .before .before .before .if4 .taken))  -- loop-less
+    (λ c. omega (arith, c .before .before .before .before .before .before .before .before .before .before .if4 .taken))  -- loop-less
     (λ c.
-    let x = c .before .before .before .before .before .before in
+    let x = c .before .before .before .before in
     let i = x .before .before .before .before .before .before .before .before in
-    let r = c .before .before .before .before .before .before .before .before .before .before .before .turned .ensures in (
-      omega (arith, c .before .before .before .before .before .before .before .before .before .before .before .before .if4 .taken),
+    let r = x .before .before .before .before .before .turned .ensures in (
+      omega (arith, x .before .before .before .before .before .before .if4 .taken),
       x .explore .kept .1 .1 .1 .1 .1 .1 .1 .1 .0 ∙ i .loop .inv .1,
-      x .explore .kept .1 .1 .1 .1 .1 .1 .1 .1 .1 .1 .0 ∙ i .loop .inv .2,
-      λ u l b k. let v = i .loop .inv .3 u l b k in
+      λ u l b k. let v = i .loop .inv .2 u l b k in
           let e = x .explore .ensures u l (seeking-begins (v .0) b) (v .1) in
           (seeking-next (v .0) (x .explore .result) (e .0) (r .0) (r .1) (not-false (x .explore .result .none) (c .if5 .left)), e .1),
     ))  -- loop-again
     (λ c κs.
-    let i = c .before .before .before in
-    let n = i .before .before .before .before .before .before .before in
-    let w = n .before .before .before .before .before .before .before .before .before in
-    let g = w .before .before .before .before .before .before .before .before .before .before in
-    let a = g .before .before .before .before .before .pre .1 in
-    omega (arith, open-low (a .0 .1) (a .0 .2 .fits) _ (n .pick .ensures .0), a .1, g .gives-up .kept .1 .0, w .bound .kept .1 .1 .1 .1 .1 .1 .1 .1 .0, n .pick .kept .1 .1 .1 .1 .1 .1 .1 .1 .0, i .before .before .before .offset .kept .1 .0, i .loop .inv .2))  -- blame-requires
-    (λ c. let i = c .before .before .before .before .before .before in i .loop .inv .1 ∙ i .before .before .before .before .before .before .before .before .before .before .before .before .before .before .before .before .bound .kept .1 .1 .1 .1 .1 .1 .0)  -- same-length-7
-    (λ c.
-    let i = c .before .before .before .before .before .before in
-    let n = i .before .before .before .before .before .before .before in
-    c .before .before .blame .kept .0 ∙ i .loop .inv .2 ∙ i .before .before .before .offset .kept .1 .0 ∙ n .pick .kept .1 .1 .1 .1 .1 .1 .1 .1 .0 ∙ n .before .before .before .before .before .before .before .before .before .bound .kept .1 .1 .1 .1 .1 .1 .1 .1 .0 ∙ n .before .before .before .before .before .before .before .before .before .before .before .before .before .before .before .before .before .before .before .gives-up .kept .1 .0)  -- same-length-8
+    let n = c .before .before .before .before .before .before in
+    let w = n .before .before .before .before .before .before .before in
+    let a = w .before .before .before .before .before .before .before .before .before .before .before .before .pre .1 in
+    omega (arith, open-low (a .1) (a .2 .fits) _ (n .pick .ensures .0)))  -- blame-requires
+    (λ c. let i = c .before .before .before .before in i .loop .inv .1 ∙ i .before .before .before .before .before .before .before .before .before .before .bound .kept .1 .1 .1 .1 .1 .1 .0)  -- same-length-3
     (λ c u l b k.
-    let i = c .before .before .before .before .before .before in
-    let n = i .before .before .before .before .before .before .before in
-    let w = n .before .before .before .before .before .before .before .before .before in
+    let i = c .before .before .before .before in
+    let n = i .before .before .before in
+    let w = n .before .before .before .before .before .before .before in
     let m = w .bound .ensures u l b k in
-    let v = i .loop .inv .3 u l (bounded-begins (w .bound .result) (m .0) b) (record { knows = n .pick .ensures .1 u l (b .fits) (m .1 .knows); keeps = m .1 .keeps }) in (
+    let v = i .loop .inv .2 u l (bounded-begins (w .bound .result) (m .0) b) (record { knows = n .pick .ensures .1 u l (b .fits) (m .1 .knows); keeps = m .1 .keeps }) in (
       bounded-then (w .bound .result) (m .0) _
-          (seeking-end (v .0) (b .fits) (omega (arith, c .before .before .before .before .if4 .left)) (b .fits .open-task (n .pick .result) (n .pick .ensures .0) .0) (l .rules .processors) _),
+          (seeking-end (v .0) (b .fits) (omega (arith, c .before .before .if4 .left)) (b .fits .open-task (n .pick .result) (n .pick .ensures .0) .0) (l .rules .processors) _),
       v .1,
     ))  -- returns-5

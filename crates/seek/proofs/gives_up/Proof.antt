@@ -10,9 +10,8 @@ gives-up-spec =
     tie.close
     (tie.spec
     (λ c e. absurd (false≢true e))  -- returns
-    (λ c. search needs)  -- slice-read-fuel
+    (λ c. search needs)  -- element-copy-out-fuel
     (λ c e. not-false (c .before .before .before .args .limited) (c .before .before .if1 .left))  -- returns-2
     (λ c. search needs)  -- sub-notes
-    (λ c. search needs)  -- slice-write-notes
-    (λ c. search needs)  -- same-length
+    (λ c. search needs)  -- element-write-notes
     (λ c e. absurd (false≢true e)))  -- returns-3

@@ -10,5 +10,4 @@ offset-spec =
     (tie.spec
     (λ c κs. search needs)  -- noise-requires
     (λ c. search needs)  -- rem-result
-    (λ c. search needs)  -- same-length
-    (λ c. mod-lt _ (c .before .before .before .before .before .pre .0)))  -- returns
+    (λ c. mod-lt _ (c .before .before .pre)))  -- returns

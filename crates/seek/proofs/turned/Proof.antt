@@ -1,7 +1,6 @@
 -- By the test.
 use mathlib.Core.Path.{refl}
 use mathlib.Core.Logic.{inl, inr}
-use native.Mathlib.Omega.{arith}
 use borrow.Author.Needs.{needs}
 use Rattle.seek.proofs.turned.Statement.{statement}
 use Rattle.seek.proofs.turned.Tie as tie

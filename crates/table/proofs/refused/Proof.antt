@@ -1,9 +1,5 @@
 -- `refused` meets its contract. Assumes nothing.
-use mathlib.Core.Path.{ap}
 use borrow.Author.Needs.{needs}
-use Rattle.layout.specs.declared.Progress.{Progress}
-use Rattle.table.specs.declared.Scanned.{Scanned}
-use Rattle.table.specs.declared.Outcome.the-variants.{Refused}
 use Rattle.table.proofs.refused.Statement.{statement}
 use Rattle.table.proofs.refused.Tie as tie
 

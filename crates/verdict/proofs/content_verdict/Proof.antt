@@ -1,5 +1,5 @@
 -- `content_verdict` meets its contract. Assumes nothing.
-use mathlib.Core.Path.{sym, ap, _∙_}
+use mathlib.Core.Path.{_∙_}
 use borrow.Author.Needs.{needs}
 use Rattle.verdict.specs.Faults.{contentVerdict, outOfRange, notInFile, priorityUsed, periodsDiffer, messageRepeated, hyperperiodTooLarge}
 use Rattle.verdict.proofs.content_verdict.Statement.{statement}

@@ -7,7 +7,6 @@ use native.Mathlib.Omega.{arith}
 use borrow.Author.Count.{below-none, below-more}
 use borrow.Author.Tests.{eq-eqb, ne-eqb}
 use lib.Dec.{eqb}
-use lib.ListN.{length}
 use Rattle.finite.proofs.Some.{some-true, some-false}
 use Rattle.wire.specs.Wire.{number}
 use Rattle.verdict.specs.Reached.{Standing}

@@ -3,7 +3,7 @@ use mathlib.Core.Path.{sym, _∙_}
 use native.Mathlib.Omega.{arith}
 use borrow.Author.Tests.{lt-ltb, le-ltb}
 use borrow.Author.Needs.{needs}
-use Rattle.layout.specs.declared.Kind.the-variants.{Network, Processor, Task, CoResident, Exclusive}
+use Rattle.layout.specs.declared.Kind.the-variants.{Processor, Task}
 use Rattle.verdict.specs.Faults.{contentVerdict, notInFile, periodsDiffer, messageRepeated, hyperperiodTooLarge}
 use Rattle.verdict.proofs.Passed.{task-range}
 use Rattle.verdict.proofs.Tests.{priority-by}
