@@ -1,4 +1,1 @@
-pub mod Weighted
-pub mod Fairness
-pub mod Tightening
-pub mod Network
+pub mod Bounding

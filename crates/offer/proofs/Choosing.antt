@@ -15,7 +15,6 @@ use Rattle.mask.specs.Mask.{has, below, insertOf, removeOf}
 use Rattle.mask.proofs.Laws.{has-zero, has-insert, has-remove, has-below, below-has}
 use Rattle.table.specs.declared.Table.{Table}
 use Rattle.table.specs.Sound.{Sound}
-use Rattle.schedule.specs.Periodic.{Tasks}
 use Rattle.schedule.specs.Arrays.{Says}
 use Rattle.rules.specs.Placement.{placed, andTask}
 use Rattle.rules.specs.Rules.{Keeps}

@@ -1,2 +1,3 @@
 pub mod Meeting
 pub mod Choosing
+pub mod Fairness

@@ -10,7 +10,7 @@ use borrow.Author.Tests.{ne-eqb}
 use lib.Dec.{T, eqb, eqb→eq}
 use lib.ListN.{getD}
 use Rattle.finite.proofs.Some.{or-left, or-right, or-either, Answer, passes, fails, answer}
-use Rattle.mask.specs.Mask.{has, Subset, below, insertOf, removeOf}
+use Rattle.mask.specs.Mask.{has, Subset, insertOf, removeOf}
 use Rattle.mask.proofs.Laws.{has-insert, has-remove, remove-subset, remove-mono, below-has, subset-below, insert-below}
 use Rattle.schedule.specs.Periodic.{Tasks}
 use Rattle.schedule.specs.Arrays.{tasksOf}

@@ -18,12 +18,12 @@ use Rattle.rules.specs.Rules.{traffic, networkBroken, Keeps}
 use Rattle.rules.specs.Sets.{standing, meets}
 use Rattle.rules.proofs.Where.{elsewhere-elim, elsewhere-intro}
 use Rattle.columns.specs.Columns.{besideOf, messagesOf, residenceRow, memoryRow, loadRow, exclusionRow, partnerRow}
-use Rattle.columns.proofs.Laws.{loads-get, neighbours-get, amounts-bound}
+use Rattle.columns.proofs.Laws.{loads-get, neighbours-get}
 use Rattle.partial.specs.declared.State.{State}
 use Rattle.partial.specs.declared.Sizes.{Sizes}
 use Rattle.partial.specs.Partial.{Lent, Fits, siteOf}
 use Rattle.partial.specs.declared.Site.{Site}
-use Rattle.partial.specs.Tests.{neither, suits, between, SmallMessages, TrialOf}
+use Rattle.partial.specs.Tests.{neither, suits, between, TrialOf}
 use Rattle.partial.proofs.OneMore as one
 
 -- the tasks on other processors than p, as the code finds them
@@ -194,13 +194,3 @@ module _ {t : Table} {sizes : Sizes} {columns links : List (List ℕ)} {s : Stat
   bounds =
       let sound = e .sound in
       (omega (arith, task, sound .tasks .most), omega (arith, sound .processors .most, on-table), omega (arith, e .tasks, sound .tasks .most))
-
-  pub carried : SmallMessages links (sizes .messages)
-  carried =
-      let sound = e .sound in
-      record {
-        few = omega (arith, e .messages, sound .messages .most);
-        from-task = λ j l. rw (e .same-sender) (omega (arith, e .messages, sound .messages .from-task j (omega (arith, e .messages)), sound .tasks .most));
-        to-task = λ j l. rw (e .same-receiver) (omega (arith, e .messages, sound .messages .to-task j (omega (arith, e .messages)), sound .tasks .most));
-        small = λ j l. rw (e .same-amounts) (amounts-bound t sound j);
-      }

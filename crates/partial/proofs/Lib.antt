@@ -1,5 +1,6 @@
 pub mod MaskSets
 pub mod OneMore
+pub mod MessageSum
 pub mod Deciding
 pub mod NextState
 pub mod Whole

@@ -2,13 +2,13 @@
 use mathlib.Core.Path.{_≡_, refl, ap, _∙_}
 use mathlib.Core.Bool.{Bool, true, false, not, _||_, and-true}
 use Prim.Native.Nat.{ℕ, zero, suc, _+_, _-_, _*_, _/_, _%_, _^_, _≤_, _<_}
-use native.Mathlib.Nat.{lt-of-le-of-lt, lt-of-lt-of-le, mod-eq-of-lt, pow-suc}
+use native.Mathlib.Nat.{lt-of-le-of-lt, lt-of-lt-of-le, mod-eq-of-lt}
 use native.Mathlib.Omega.{arith}
 use borrow.Author.Tests.{lt-ltb, eq-eqb, ne-eqb}
 use lib.Bits.{bitAnd, bitOr, bitXor, differ, and-le-l, and-mask, xor-add-and, xor-shr, xor-step}
 use lib.Dec.{T, eqb, ltb, eqb→eq, T-not, not-T, eqb-refl}
 use lib.Pow.{pow-mono, pow-pos}
-use Rattle.finite.specs.Finite.{only, sumTo}
+use Rattle.finite.specs.Finite.{only}
 use Rattle.mask.specs.Mask.{bit, has, maskOf}
 use Rattle.mask.proofs.Tests.{and-both, and-left, and-right}
 use Rattle.mask.proofs.Laws.{ext, has-and, has-mask, has-of, has-or, has-zero, bit-only, mask-lt, some-member, first-mask}

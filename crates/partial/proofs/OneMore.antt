@@ -2,17 +2,16 @@
 use mathlib.Core.Path.{_≡_, refl, sym, ap, _∙_}
 use mathlib.Core.Logic.{_≢_, _⊎_, inl, inr}
 use mathlib.Core.Bool.{Bool, not, _&&_}
-use Prim.Native.Nat.{ℕ, _+_, _*_, _/_, _^_, _≤_, _<_}
+use Prim.Native.Nat.{ℕ, _+_, _*_, _/_, _≤_, _<_}
 use native.Mathlib.Omega.{arith}
 use native.Mathlib.Decide.{ℕ-discrete, decLe}
 use lib.Dec.{T, eqb, ltb, T-not, not-T, ltb→lt, lt→ltb, eqb→eq, eqb-refl}
 use lib.ListN.{getD}
-use Rattle.finite.specs.Finite.{only, someBelow}
+use Rattle.finite.specs.Finite.{only}
 use Rattle.finite.proofs.Sum.{sum-ext}
 use Rattle.finite.proofs.Some.{Answer, passes, fails, answer, or-left, or-right, or-either, some-intro, some-elim}
-use Rattle.mask.specs.Mask.{has, below}
+use Rattle.mask.specs.Mask.{has}
 use Rattle.mask.proofs.Tests.{and-both, and-left, and-right}
-use Rattle.mask.proofs.Laws.{below-has, has-mask, mask-lt}
 use Rattle.table.specs.declared.Table.{Table}
 use Rattle.table.specs.Sound.{Sound}
 use Rattle.table.proofs.Columns.{column-in}

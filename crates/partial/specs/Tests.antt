@@ -38,8 +38,8 @@ between links count k others = sumTo count (λ j. only (joins k others (getD (se
 -- messages between tasks, small enough that their sum fits
 pub record SmallMessages (links : List (List ℕ)) (count : ℕ) : Type 0 where
   pub few : count ≤ 64
-  pub from-task : (j : ℕ) → j < count → getD (senderRow links) j 0 < 32
-  pub to-task : (j : ℕ) → j < count → getD (receiverRow links) j 0 < 32
+  pub from-task : (j : ℕ) → j < count → getD (senderRow links) j 0 < 24
+  pub to-task : (j : ℕ) → j < count → getD (receiverRow links) j 0 < 24
   pub small : (j : ℕ) → j < count → getD (amountRow links) j 0 ≤ 1000000000000000
 
 -- the rules would be broken with task k on p, or they are kept and it adds so much to the network

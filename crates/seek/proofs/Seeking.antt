@@ -24,8 +24,8 @@ use Rattle.region.specs.Begins.{Begins}
 use Rattle.region.proofs.Refuting.{and-part, branch, refuted-map, met-map, witness-map, witness-end}
 use Rattle.twin.specs.Twin.{LowestTwin}
 use Rattle.twin.proofs.Swap.{swap-refuted}
-use Rattle.bound.specs.declared.Bounded.{Bounded}
-use Rattle.bound.specs.Bound.{BoundedAs}
+use Rattle.weighing.specs.declared.Bounded.{Bounded}
+use Rattle.weighing.specs.Bound.{BoundedAs}
 use Rattle.entering.specs.declared.Entered.{Entered}
 use Rattle.seek.specs.declared.Sought.{Sought}
 use Rattle.entering.specs.Entering.{EntersAs, EnteredAs}

@@ -1,7 +1,7 @@
 -- The bound without listing first; where conflicts are listed and it gives the region up, once more with listing.
 use mathlib.Core.Logic.{inl, inr, ⊎-elim}
 use borrow.Author.Needs.{needs}
-use Rattle.bound.proofs.Tightening.{bounded-not, bounded-then, bounded-first}
+use Rattle.bound.proofs.Bounding.{bounded-not, bounded-then, bounded-first}
 use Rattle.bound.proofs.bound.Statement.{statement}
 use Rattle.bound.proofs.bound.Tie as tie
 

@@ -9,13 +9,14 @@ use Rattle.timing.specs.Timing.{tasksIn}
 use Rattle.ledger.specs.Ledger.{Ledger, Bad}
 use Rattle.ledger.proofs.Verdicts.{bad-grows}
 use Rattle.partial.specs.Partial.{Fits}
+use Rattle.partial.proofs.MessageSum.{small-messages}
 use Rattle.region.specs.Lends.{Lends}
-use Rattle.memo.specs.Memo.{Learnt}
-use Rattle.bound.specs.Bound.{BoundedAs}
 use Rattle.offer.specs.Offer.{Choices}
 use Rattle.offer.proofs.Choosing.{choice-map}
-use Rattle.bound.proofs.Tightening.{bounded-then, bounded-from}
-use Rattle.bound.proofs.Network.{carried-of, crossing-as, bounded-network}
+use Rattle.memo.specs.Memo.{Learnt}
+use Rattle.crossing.proofs.Network.{crossing-as}
+use Rattle.weighing.specs.Bound.{BoundedAs}
+use Rattle.bound.proofs.Bounding.{bounded-network, bounded-from, bounded-then}
 use Rattle.bound.proofs.try_all.Statement.{statement}
 use Rattle.bound.proofs.try_all.Tie as tie
 
@@ -38,7 +39,7 @@ try-all-spec =
     (λ c. search needs)  -- index-1-crossing
     (λ c κs.
     let l = c .before .before .before .before .before .before .before .before .pre .1 .rules in
-    (omega (arith, l .processors, l .sound .processors .most), carried-of l))  -- crossing-requires
+    (omega (arith, l .processors, l .sound .processors .most), small-messages l))  -- crossing-requires
     (λ c. (refl, λ t l f w o k. (bounded-network _ (l .rules .sound) f w o (crossing-as (l .rules) _ _ (c .before .crossing .ensures)), k)))  -- loop-holds
     (λ c κs.
     let i = c .before .before .before .before .before in

@@ -3,7 +3,8 @@ use native.Mathlib.Omega.{arith}
 use borrow.Author.Needs.{needs}
 use Prim.Native.Nat.{_<_}
 use Rattle.partial.proofs.MaskSets.{meets-if, meets-not}
-use Rattle.partial.proofs.Deciding.{free-at, own-test-fails, group-parted, network-decides, bounds, carried}
+use Rattle.partial.proofs.Deciding.{free-at, own-test-fails, group-parted, network-decides, bounds}
+use Rattle.partial.proofs.MessageSum.{small-messages}
 use Rattle.partial.proofs.attempt.Statement.{statement}
 use Rattle.partial.proofs.attempt.Tie as tie
 
@@ -30,10 +31,7 @@ attempt-spec =
     let h = c .before .before in
     let a = h .before .before .before in
     λ t s l f e. group-parted l f (a .args .k) (a .args .p) (free-at s (a .args .k) (a .args .p) e (a .pre .1)) (a .pre .2) (rw e at (h .neither .ensures)) (meets-if _ _ (c .if2 .taken)))  -- returns-2
-    (λ c κs.
-    let a = c .before .before .before .before .before in
-    let z = a .pre .0 in
-    carried (z .2) (z .3) (a .args .k) (a .args .p) (free-at (z .1) (a .args .k) (a .args .p) (z .4) (a .pre .1)) (a .pre .2))  -- between-requires
+    (λ c κs. small-messages (c .before .before .before .before .before .pre .0 .2))  -- between-requires
     (λ c.
     let b = c .before in
     let d = b .before in

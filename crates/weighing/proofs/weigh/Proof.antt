@@ -1,0 +1,113 @@
+-- The processors' bounds are made tighter one after the other; their sum is known at each step.
+use mathlib.Core.Path.{_≡_, refl, _∙_}
+use Prim.Native.Nat.{_-_, _≤_}
+use native.Mathlib.Omega.{arith}
+use borrow.Author.Needs.{needs}
+use lib.ListN.{length, getD, length-set}
+use Rattle.finite.specs.Finite.{sumTo}
+use Rattle.table.specs.declared.Table.{Table}
+use Rattle.timing.specs.Timing.{tasksIn}
+use Rattle.columns.specs.Columns.{weightsIn}
+use Rattle.ledger.specs.Ledger.{Ledger, Bad}
+use Rattle.partial.specs.Partial.{Fits}
+use Rattle.region.specs.Lends.{Lends}
+use Rattle.offer.specs.Offer.{Choices}
+use Rattle.offer.proofs.Choosing.{below-more, open-below, eligible-below}
+use Rattle.memo.specs.Memo.{Learnt}
+use Rattle.weighing.proofs.Tightening.{light-of, tops-start, Tightening, tightening-start, tightening-next, tightening-end}
+use Rattle.weighing.proofs.weigh.Statement.{statement}
+use Rattle.weighing.proofs.weigh.Tie as tie
+
+abbrev Inv-loop : tie.InvT-loop
+Inv-loop timing columns messages row sizes s sets mode list₀ count known₀ memo₀ m need tops₀ sum₀ listed₀ p₀ list known memo tops sum listed p =
+    (p ≤ m) × (length tops ≡ 8) × (sum ≡ sumTo m (λ r. getD tops r 0)) × (length list ≡ length list₀)
+    × ((t : Table) → Lends t sizes timing columns messages → Fits t s → Ledger (tasksIn t) (mode .places) list₀ count → Choices t s (Bad (tasksIn t) (mode .listing) list₀ count) sets
+    → Learnt t columns known₀ memo₀ → Tightening t (mode .listing) (mode .places) s (weightsIn columns row) sets list₀ count tops list listed × Learnt t columns known memo)
+
+abbrev μ-loop : tie.MeasureT-loop
+μ-loop timing columns messages row sizes s sets mode list₀ count known₀ memo₀ m need tops₀ sum₀ listed₀ p₀ list known memo tops sum listed p = m - p
+
+pub weigh-spec : {M : Type 1} → statement M
+weigh-spec =
+    tie.close
+    (tie.spec
+    Inv-loop
+    μ-loop
+    (λ c. search needs)  -- add-weight-of
+    (λ c. search needs)  -- mul-weight-of
+    (λ c. search needs)  -- index-1-weight-of
+    (λ c κs.
+    let z = c .before .before .pre in
+    (below-more _ 24 _ (z .0 .1 .rules .sound .tasks .most) (open-below (z .0 .2)), light-of (z .0 .1 .rules) _ (z .1)))  -- weight-of-requires
+    (λ c. search needs)  -- add-tops-of
+    (λ c. search needs)  -- mul-tops-of
+    (λ c. search needs)  -- index-1-tops-of
+    (λ c κs.
+    let z = c .before .before .before .before .pre in
+    let l = z .0 .1 .rules in (
+      omega (arith, l .processors, l .sound .processors .most),
+      light-of l _ (z .1),
+      λ p low. below-more _ 24 _ (l .sound .tasks .most) (eligible-below (z .0 .2) (z .0 .4 p (omega (arith, l .processors)) .eligible)),
+    ))  -- tops-of-requires
+    (λ c κs.
+    let l = c .before .before .before .before .before .pre .0 .1 .rules in
+    (omega (arith, l .processors, l .sound .processors .most), c .tops-of .ensures .1))  -- total-requires
+    (λ c. (
+      omega arith,
+      c .before .tops-of .ensures .0,
+      c .total .ensures,
+      refl,
+      λ t l f v o k. (
+        tightening-start v (tops-start (l .rules) f (λ p low. o p low .eligible) (c .before .tops-of .ensures .1) (c .before .tops-of .ensures .2)),
+        k,
+      ),
+    ))  -- loop-holds
+    (λ c κs.
+    let i = c .before .before .before .before .before in
+    let z = i .before .before .before .before .before .before .before .pre in
+    let v = i .loop .inv .4 (z .0 .0) (z .0 .1) (z .0 .2) (z .0 .3) (z .0 .4) (z .0 .5) in
+    ((z .0 .0, z .0 .1, z .0 .2, v .0 .ledger, (λ p low. z .0 .4 p low .eligible), v .0 .holds, v .1), z .1, c .before .before .before .before .loop-test .taken))  -- tighten-requires
+    (λ c.
+    let i = c .before .before .before .before .before .before .before in
+    let l = i .before .before .before .before .before .before .before .before .pre .0 .1 .rules in
+    omega (arith, i .loop-test .taken, l .processors, l .sound .processors .most))  -- mul-tops
+    (λ c.
+    let i = c .before .before .before .before .before .before .before in
+    let l = i .before .before .before .before .before .before .before .before .pre .0 .1 .rules in
+    omega (arith, i .loop-test .taken, l .processors, l .sound .processors .most))  -- array-write-tops
+    (λ c κs.
+    let x = c .before .before in
+    let b = x .before .before .before .before .before in
+    let i = b .before in
+    let z = i .before .before .before .before .before .before .before .pre in
+    let l = z .0 .1 .rules in
+    let v = i .loop .inv .4 (z .0 .0) (z .0 .1) (z .0 .2) (z .0 .3) (z .0 .4) (z .0 .5) in (
+      omega (arith, l .processors, l .sound .processors .most),
+      tightening-next (v .0) (omega (arith, i .loop .inv .1, b .loop-test .taken, l .processors, l .sound .processors .most)) (x .tighten .result)
+          (x .tighten .ensures (z .0 .0) (z .0 .1) (z .0 .2) (v .0 .ledger) (λ p low. z .0 .4 p low .eligible) (v .0 .holds) (v .1) .0) .holds .small,
+    ))  -- total-requires-2
+    (λ c.
+    let i = c .before .before .before .before .before .before .before .before in
+    let l = i .before .before .before .before .before .before .before .before .pre .0 .1 .rules in
+    omega (arith, i .loop-test .taken, l .processors, l .sound .processors .most))  -- add-p
+    (λ c. search needs)  -- loop-less
+    (λ c.
+    let x = c .before .before .before in
+    let b = x .before .before .before .before .before in
+    let i = b .before in (
+      omega (arith, b .loop-test .taken),
+      simp length-set (i .loop .inv .1),
+      c .total2 .ensures,
+      x .tighten .kept .1 .1 .1 .1 .1 .1 .1 .1 .1 .1 .0 ∙ i .loop .inv .3,
+      λ t l f w o k.
+          let v = i .loop .inv .4 t l f w o k in
+          let a = x .tighten .ensures t l f (v .0 .ledger) (λ p low. o p low .eligible) (v .0 .holds) (v .1) in
+          (tightening-next (v .0) (omega (arith, i .loop .inv .1, b .loop-test .taken, l .rules .processors, l .rules .sound .processors .most)) (x .tighten .result) (a .0), a .1),
+    ))  -- loop-again
+    (λ c. search needs)  -- same-length
+    (λ c.
+    let i = c .before in
+    let x = i .before .before .before .before in
+    λ t l f v o k.
+    let a = i .loop .inv .4 t l f v o k in
+    (tightening-end (a .0) (l .rules .sound) f o (rw (← l .rules .processors) (i .loop .inv .2)) (x .weight-of .ensures .1 _ (open-below f)), a .1)))  -- returns

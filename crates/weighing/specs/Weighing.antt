@@ -1,0 +1,58 @@
+-- The weight bound: how much of the open tasks' weight each processor can take at most.
+use mathlib.Core.Path.{_≡_}
+use mathlib.Core.Bool.{Bool, true, false}
+use mathlib.Core.List.{List}
+use Prim.Native.Nat.{ℕ, _≤_, _<_}
+use lib.Dec.{T, ltb}
+use lib.ListN.{getD}
+use Rattle.mask.specs.Mask.{below, Subset}
+use Rattle.table.specs.declared.Table.{Table}
+use Rattle.rules.specs.Sets.{standing}
+use Rattle.timing.specs.Timing.{tasksIn}
+use Rattle.columns.specs.Columns.{loadsOf, exclusionsOf}
+use Rattle.partial.specs.declared.State.{State}
+use Rattle.ledger.specs.Ledger.{Ledger, Grows, Bad}
+use Rattle.region.specs.Region.{Within, Met}
+use Rattle.packing.specs.declared.Packed.{Packed}
+use Rattle.packing.specs.Packing.{weightOf, Takes}
+
+-- the lower of two numbers
+abbrev pub lowerOf : ℕ → ℕ → ℕ
+lowerOf a b = elim (ltb a b) [ true ↦ a | false ↦ b ]
+
+-- small numbers, so that sums of them fit
+abbrev pub Light : List ℕ → Type 0
+Light weights = (k : ℕ) → getD weights k 0 < 4294967296
+
+-- r bounds the weight of the sets x of candidates that weigh no more than what is left of the load, where row 0 weighs them, or of the memory, where row 1 does
+pub record TopAs (weights : List ℕ) (set row space spare r : ℕ) : Type 0 where
+  pub small : r ≤ 103079215080
+  pub bounds : (n : ℕ) → T (below n set) → (x : ℕ) → Subset x set → (row ≡ 0 → weightOf n weights x ≤ spare) → (row ≡ 1 → weightOf n weights x ≤ space) → weightOf n weights x ≤ r
+
+-- processor r can take whatever p can
+pub record Covers (s : State) (sets : List ℕ) (r p : ℕ) : Type 0 where
+  pub same-on : getD (s .on) p 0 ≡ getD (s .on) r 0
+  pub same-set : getD sets p 0 ≡ getD sets r 0
+  pub memory : getD (s .memory) p 0 ≤ getD (s .memory) r 0
+  pub load : getD (s .load) p 0 ≤ getD (s .load) r 0
+
+-- the candidates x can join the tasks on p
+pub record Joins (t : Table) (s : State) (B : (ℕ → Bool) → Type 0) (sets : List ℕ) (p x : ℕ) : Type 0 where
+  pub inside : Subset x (getD sets p 0)
+  pub takes : Takes (t .tasks .count) (t .tasks .memory) (exclusionsOf t) (loadsOf t) B (getD (s .on) p 0) (getD (s .memory) p 0) (getD (s .load) p 0) x
+
+-- top bounds the weight of what can join the tasks on p
+abbrev pub Bounds : Table → State → ((ℕ → Bool) → Type 0) → List ℕ → List ℕ → ℕ → ℕ → Type 0
+Bounds t s B weights sets p top = (x : ℕ) → Joins t s B sets p x → weightOf (t .tasks .count) weights x ≤ top
+
+-- such a bound for each processor, small enough for a sum of them
+pub record Tops (t : Table) (s : State) (B : (ℕ → Bool) → Type 0) (weights sets tops : List ℕ) : Type 0 where
+  pub small : (p : ℕ) → getD tops p 0 ≤ 103079215080
+  pub bounds : (p : ℕ) → p < t .processors .count → Bounds t s B weights sets p (getD tops p 0)
+
+-- a bound for p that is no larger than before
+pub record TightAs (t : Table) (listing : Bool) (places : ℕ) (s : State) (weights sets tops : List ℕ) (p : ℕ) (old : List ℕ) (before : ℕ) (new : List ℕ) (r : Packed) : Type 0 where
+  pub ledger : Ledger (tasksIn t) places new (r .count)
+  pub grows : Grows (Met t (Within (standing (s .on)))) old before new (r .count)
+  pub no-more : r .most ≤ getD tops p 0
+  pub bounds : Bounds t s (Bad (tasksIn t) listing new (r .count)) weights sets p (r .most)
