@@ -11,7 +11,7 @@ use lib.ListN.{length, getD}
 use Rattle.finite.specs.Finite.{someBelow}
 use Rattle.finite.proofs.Some.{Answer, passes, fails, answer}
 use Rattle.mask.specs.Mask.{has, maskOf, within}
-use Rattle.mask.proofs.Tests.{and-both, and-right}
+use Rattle.mask.proofs.Tests.{same-test, and-both, and-right}
 use Rattle.mask.proofs.Laws.{has-mask}
 use Rattle.table.specs.declared.Table.{Table}
 use Rattle.table.specs.Sound.{Sound}
@@ -83,16 +83,8 @@ covered? list count n x low = go (answer (someBelow count (λ j. within (maskAt 
     back k u = rw (has-mask n x k) (and-both (ltb k n) (x k) (lt→ltb k n (low k u)) u)
 
     go : Answer (someBelow count (λ j. within (maskAt list j) (maskOf n x))) → Dec (Covered list count x)
-    go (passes u) = yes (covered-more forth (covered-yes list count (maskOf n x) refl (is-true _ u)))
-      where
-        is-true : (b : Bool) → T b → b ≡ true
-        is-true true v = refl
-        is-true false v = absurd v
-    go (fails g) = no (λ c. covered-no list count (maskOf n x) refl (is-false _ g) (covered-more back c))
-      where
-        is-false : (b : Bool) → (T b → ⊥) → b ≡ false
-        is-false true v = absurd (v tt)
-        is-false false v = refl
+    go (passes u) = yes (covered-more forth (covered-yes list count (maskOf n x) refl (same-test _ true (λ v. tt) (λ v. u))))
+    go (fails g) = no (λ c. covered-no list count (maskOf n x) refl (same-test _ false g (λ v. absurd v)) (covered-more back c))
 
 module _ {t : Table} (h : Sound t) (listing : Bool) (list : List ℕ) (count : ℕ) where
   bad? : {q : List ℕ} → PlacementOf t q → (b : Bool) (p : ℕ) → Dec (Bad (tasksIn t) b list count (λ k. placed q k p))

@@ -39,7 +39,7 @@ use Rattle.packing.specs.Packing.{weightOf, Takes, PackedAs}
 use Rattle.packing.proofs.Taking.{takes-map}
 use Rattle.memo.specs.Memo.{Capped}
 use Rattle.weighing.specs.Bound.{BoundedAs}
-use Rattle.weighing.specs.Weighing.{Light, TopAs, Covers, Joins, Bounds, Tops, TightAs}
+use Rattle.weighing.specs.Weighing.{Light, TopAs, Covers, Joins, Bounds, Tops, Topped, TightAs}
 use Rattle.weighing.proofs.OpenTasks.{openOn, fair-joins, open-sum}
 
 -- fewer kinds of sets
@@ -140,6 +140,10 @@ tightening-start w o = record { ledger = w; grows = grows-refl; holds = o }
 
 module _ {t : Table} {listing : Bool} {places : ℕ} {s : State} {weights sets old : List ℕ} {before : ℕ} {tops list : List ℕ} {listed : ℕ}
     (w : Tightening t listing places s weights sets old before tops list listed) where
+  -- the next processor's bound can be made tighter
+  pub tightening-topped : Fits t s → Choices t s (Bad (tasksIn t) listing old before) sets → Topped t listing places s weights sets tops list listed
+  tightening-topped f c = record { fits = f; ledger = w .ledger; eligible = λ p low. c p low .eligible; holds = w .holds }
+
   pub tightening-next : {p : ℕ} → p < length tops → {new : List ℕ} (r : Packed) → TightAs t listing places s weights sets tops p list listed new r
       → Tightening t listing places s weights sets old before (set tops p (r .most)) new (r .count)
   tightening-next {p} low {new} r a = record {

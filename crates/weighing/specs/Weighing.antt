@@ -11,8 +11,10 @@ use Rattle.rules.specs.Sets.{standing}
 use Rattle.timing.specs.Timing.{tasksIn}
 use Rattle.columns.specs.Columns.{loadsOf, exclusionsOf}
 use Rattle.partial.specs.declared.State.{State}
+use Rattle.partial.specs.Partial.{Fits}
 use Rattle.ledger.specs.Ledger.{Ledger, Grows, Bad}
 use Rattle.region.specs.Region.{Within, Met}
+use Rattle.offer.specs.Offer.{Eligible}
 use Rattle.packing.specs.declared.Packed.{Packed}
 use Rattle.packing.specs.Packing.{weightOf, Takes}
 
@@ -49,6 +51,13 @@ Bounds t s B weights sets p top = (x : ℕ) → Joins t s B sets p x → weightO
 pub record Tops (t : Table) (s : State) (B : (ℕ → Bool) → Type 0) (weights sets tops : List ℕ) : Type 0 where
   pub small : (p : ℕ) → getD tops p 0 ≤ 103079215080
   pub bounds : (p : ℕ) → p < t .processors .count → Bounds t s B weights sets p (getD tops p 0)
+
+-- what a tighter bound begins with: a state and the list of conflicts so far, candidates for each processor, and a bound for each
+pub record Topped (t : Table) (listing : Bool) (places : ℕ) (s : State) (weights sets tops list : List ℕ) (count : ℕ) : Type 0 where
+  pub fits : Fits t s
+  pub ledger : Ledger (tasksIn t) places list count
+  pub eligible : (p : ℕ) → p < t .processors .count → Eligible t s p (getD sets p 0)
+  pub holds : Tops t s (Bad (tasksIn t) listing list count) weights sets tops
 
 -- a bound for p that is no larger than before
 pub record TightAs (t : Table) (listing : Bool) (places : ℕ) (s : State) (weights sets tops : List ℕ) (p : ℕ) (old : List ℕ) (before : ℕ) (new : List ℕ) (r : Packed) : Type 0 where

@@ -13,11 +13,11 @@ ghost use Rattle.partial.specs.Partial.{Fits};
 ghost use Rattle.known.specs.Known.{Knows};
 ghost use Rattle.ledger.specs.Ledger.{Ledger, Bad};
 ghost use Rattle.region.specs.Lends.{Lends};
-ghost use Rattle.offer.specs.Offer.{Eligible, Choices};
+ghost use Rattle.offer.specs.Offer.{Choices};
 ghost use Rattle.packing.specs.Packing.{weightOf};
 ghost use Rattle.memo.specs.Memo.{Learnt};
 ghost use Rattle.weighing.specs.Bound.{BoundedAs};
-ghost use Rattle.weighing.specs.Weighing.{lowerOf, Light, TopAs, Covers, Tops, TightAs};
+ghost use Rattle.weighing.specs.Weighing.{lowerOf, Light, TopAs, Covers, Topped, TightAs};
 use columns::Columns;
 use columns::LOAD;
 use columns::Messages;
@@ -155,10 +155,9 @@ fn pack<'a>(
     count: usize,
     known: &mut Known,
 ) -> Packed
-    requires { ⌜ ((t : Table) × Lends t sizes (now timing) (now columns) (now messages) × Fits t s × Ledger (tasksIn t) (mode .places) (now list) count × ((p : ℕ) → p < t .processors .count → Eligible t s p (getD sets p 0)) × Tops t s (Bad (tasksIn t) (mode .listing) (now list) count) (weightsIn (now columns) row) sets tops × Knows (tasksIn t) (now known)) × (row < 3) × (p < sizes .processors) ⌝ }
+    requires { ⌜ ((t : Table) × Lends t sizes (now timing) (now columns) (now messages) × Topped t (mode .listing) (mode .places) s (weightsIn (now columns) row) sets tops (now list) count × Knows (tasksIn t) (now known)) × (row < 3) × (p < sizes .processors) ⌝ }
     ensures { λ r. ⌜ ((t : Table) → Lends t sizes (now (timing .entry)) (now (columns .entry)) (now (messages .entry))
-        → Fits t s → Ledger (tasksIn t) (mode .places) (now (list .entry)) count
-        → ((p : ℕ) → p < t .processors .count → Eligible t s p (getD sets p 0)) → Tops t s (Bad (tasksIn t) (mode .listing) (now (list .entry)) count) (weightsIn (now (columns .entry)) row) sets tops → Knows (tasksIn t) (now (known .entry)) → TightAs t (mode .listing) (mode .places) s (weightsIn (now (columns .entry)) row) sets tops p (now (list .entry)) count (now (list .exit)) r × Knows (tasksIn t) (now (known .exit))) ⌝ }
+        → Topped t (mode .listing) (mode .places) s (weightsIn (now (columns .entry)) row) sets tops (now (list .entry)) count → Knows (tasksIn t) (now (known .entry)) → TightAs t (mode .listing) (mode .places) s (weightsIn (now (columns .entry)) row) sets tops p (now (list .entry)) count (now (list .exit)) r × Knows (tasksIn t) (now (known .exit))) ⌝ }
 {
     let most = tops[p];
     let set = sets[p];
@@ -205,10 +204,9 @@ fn pack_once<'a>(
     known: &mut Known,
     memo: &mut Memo,
 ) -> Packed
-    requires { ⌜ ((t : Table) × Lends t sizes (now timing) (now columns) (now messages) × Fits t s × Ledger (tasksIn t) (mode .places) (now list) count × ((p : ℕ) → p < t .processors .count → Eligible t s p (getD sets p 0)) × Tops t s (Bad (tasksIn t) (mode .listing) (now list) count) (weightsIn (now columns) row) sets tops × Learnt t (now columns) (now known) (now memo)) × (row < 3) × (p < sizes .processors) × ((mode .listing) ≡ false) ⌝ }
+    requires { ⌜ ((t : Table) × Lends t sizes (now timing) (now columns) (now messages) × Topped t (mode .listing) (mode .places) s (weightsIn (now columns) row) sets tops (now list) count × Learnt t (now columns) (now known) (now memo)) × (row < 3) × (p < sizes .processors) × ((mode .listing) ≡ false) ⌝ }
     ensures { λ r. ⌜ ((t : Table) → Lends t sizes (now (timing .entry)) (now (columns .entry)) (now (messages .entry))
-        → Fits t s → Ledger (tasksIn t) (mode .places) (now (list .entry)) count
-        → ((p : ℕ) → p < t .processors .count → Eligible t s p (getD sets p 0)) → Tops t s (Bad (tasksIn t) (mode .listing) (now (list .entry)) count) (weightsIn (now (columns .entry)) row) sets tops → Learnt t (now (columns .entry)) (now (known .entry)) (now (memo .entry)) → TightAs t (mode .listing) (mode .places) s (weightsIn (now (columns .entry)) row) sets tops p (now (list .entry)) count (now (list .exit)) r × Learnt t (now (columns .entry)) (now (known .exit)) (now (memo .exit))) ⌝ }
+        → Topped t (mode .listing) (mode .places) s (weightsIn (now (columns .entry)) row) sets tops (now (list .entry)) count → Learnt t (now (columns .entry)) (now (known .entry)) (now (memo .entry)) → TightAs t (mode .listing) (mode .places) s (weightsIn (now (columns .entry)) row) sets tops p (now (list .entry)) count (now (list .exit)) r × Learnt t (now (columns .entry)) (now (known .exit)) (now (memo .exit))) ⌝ }
 {
     let on = s.on[p];
     let set = sets[p];
@@ -257,10 +255,9 @@ fn tighten<'a>(
     known: &mut Known,
     memo: &mut Memo,
 ) -> Packed
-    requires { ⌜ ((t : Table) × Lends t sizes (now timing) (now columns) (now messages) × Fits t s × Ledger (tasksIn t) (mode .places) (now list) count × ((p : ℕ) → p < t .processors .count → Eligible t s p (getD sets p 0)) × Tops t s (Bad (tasksIn t) (mode .listing) (now list) count) (weightsIn (now columns) row) sets tops × Learnt t (now columns) (now known) (now memo)) × (row < 3) × (p < sizes .processors) ⌝ }
+    requires { ⌜ ((t : Table) × Lends t sizes (now timing) (now columns) (now messages) × Topped t (mode .listing) (mode .places) s (weightsIn (now columns) row) sets tops (now list) count × Learnt t (now columns) (now known) (now memo)) × (row < 3) × (p < sizes .processors) ⌝ }
     ensures { λ r. ⌜ ((t : Table) → Lends t sizes (now (timing .entry)) (now (columns .entry)) (now (messages .entry))
-        → Fits t s → Ledger (tasksIn t) (mode .places) (now (list .entry)) count
-        → ((p : ℕ) → p < t .processors .count → Eligible t s p (getD sets p 0)) → Tops t s (Bad (tasksIn t) (mode .listing) (now (list .entry)) count) (weightsIn (now (columns .entry)) row) sets tops → Learnt t (now (columns .entry)) (now (known .entry)) (now (memo .entry)) → TightAs t (mode .listing) (mode .places) s (weightsIn (now (columns .entry)) row) sets tops p (now (list .entry)) count (now (list .exit)) r × Learnt t (now (columns .entry)) (now (known .exit)) (now (memo .exit))) ⌝ }
+        → Topped t (mode .listing) (mode .places) s (weightsIn (now (columns .entry)) row) sets tops (now (list .entry)) count → Learnt t (now (columns .entry)) (now (known .entry)) (now (memo .entry)) → TightAs t (mode .listing) (mode .places) s (weightsIn (now (columns .entry)) row) sets tops p (now (list .entry)) count (now (list .exit)) r × Learnt t (now (columns .entry)) (now (known .exit)) (now (memo .exit))) ⌝ }
 {
     let r = like(s, sets, p);
     if r < p {

@@ -22,7 +22,7 @@ pack-spec =
     (λ c κs.
     let z = c .before .before .pre in
     let l = z .0 .1 in
-    (below-more _ 24 _ (l .rules .sound .tasks .most) (eligible-below (z .0 .2) (z .0 .4 _ (rw (← l .rules .processors) (z .2)))), light-of (l .rules) _ (z .1)))  -- weight-of-requires
+    (below-more _ 24 _ (l .rules .sound .tasks .most) (eligible-below (z .0 .2 .fits) (z .0 .2 .eligible _ (rw (← l .rules .processors) (z .2)))), light-of (l .rules) _ (z .1)))  -- weight-of-requires
     (λ c. search needs)  -- add-most
     (λ c. search needs)  -- mul-most-2
     (λ c. search needs)  -- index-1-most
@@ -36,17 +36,17 @@ pack-spec =
     let r = c .before .before .before .before .before .before in
     let z = r .before .before .before .pre in
     let l = z .0 .1 in
-    let b = eligible-below (z .0 .2) (z .0 .4 _ (rw (← l .rules .processors) (z .2))) in (
-      record { limits = lent-limits l (set-below (z .0 .2 .partial) _); tasks = rw (l .rules .tasks) b; ledger = rw (lent-tasks l) (z .0 .3) },
+    let b = eligible-below (z .0 .2 .fits) (z .0 .2 .eligible _ (rw (← l .rules .processors) (z .2))) in (
+      record { limits = lent-limits l (set-below (z .0 .2 .fits .partial) _); tasks = rw (l .rules .tasks) b; ledger = rw (lent-tasks l) (z .0 .2 .ledger) },
       omega (arith, r .weight-of .ensures .1 (r .before .before .before .args .sizes .tasks) (rw (l .rules .tasks) b)),
-      rw (lent-tasks l) (z .0 .6),
+      rw (lent-tasks l) (z .0 .3),
     ))  -- most-requires
     (λ c κs. search needs)  -- lower-requires
     (λ c. search needs)  -- same-length
     (λ c.
     let x = c .before .before .before in
     let z = x .before .before .before .before .before .before .before .before .before .before in
-    λ t l f w e o k. (
-      tight-packed o (rw (← l .rules .processors) (z .pre .2)) (l .rules .sound) f (e _ (rw (← l .rules .processors) (z .pre .2))) (x .most .result) (packed-as l (x .most .ensures .0)) (lower-is _ _ (c .lower .ensures)),
+    λ t l w k. (
+      tight-packed (w .holds) (rw (← l .rules .processors) (z .pre .2)) (l .rules .sound) (w .fits) (w .eligible _ (rw (← l .rules .processors) (z .pre .2))) (x .most .result) (packed-as l (x .most .ensures .0)) (lower-is _ _ (c .lower .ensures)),
       rw (lent-tasks l) at (x .most .ensures .1),
     )))  -- returns

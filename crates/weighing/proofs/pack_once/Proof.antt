@@ -25,18 +25,18 @@ pack-once-spec =
     (λ c.
     let y = c .before .before in
     let z = y .before .before .before .before .before .before in
-    λ t l f w e o k. (
-      tight-recalled o (rw (← l .rules .processors) (z .pre .2)) (z .pre .3) refl w (y .recall .ensures (c .before .if1 .taken) t _ (k .keeps)) (lower-is _ _ (c .lower .ensures)),
+    λ t l w k. (
+      tight-recalled (w .holds) (rw (← l .rules .processors) (z .pre .2)) (z .pre .3) refl (w .ledger) (y .recall .ensures (c .before .if1 .taken) t _ (k .keeps)) (lower-is _ _ (c .lower .ensures)),
       k,
     ))  -- returns
     (λ c κs.
     let z = c .before .before .before .before .before .before .before .before .before .pre in
-    ((z .0 .0, z .0 .1, z .0 .2, z .0 .3, z .0 .4, z .0 .5, z .0 .6 .knows), z .1, z .2))  -- pack-requires
+    ((z .0 .0, z .0 .1, z .0 .2, z .0 .3 .knows), z .1, z .2))  -- pack-requires
     (λ c κs. search needs)  -- keep-requires
     (λ c. search needs)  -- same-length
     (λ c.
     let x = c .before .before .before .before in
     let z = x .before .before .before .before .before .before .before .before .before .before in
-    λ t l f w e o k.
-    let a = x .pack .ensures t l f w e o (k .knows) in
+    λ t l w k.
+    let a = x .pack .ensures t l w (k .knows) in
     (a .0, record { knows = a .1; keeps = c .keep .ensures t _ (k .keeps) (tight-capped (x .pack .result) (z .pre .3) refl (a .0)) })))  -- returns-2

@@ -19,15 +19,15 @@ tighten-spec =
     (λ c.
     let k = c .before .before in
     let z = k .before .before .pre in
-    λ t l f w e o m. (
-      tight-like o (rw (← l .rules .processors) (z .2)) w (omega (arith, l .rules .processors, z .2, k .like .ensures .0)) (k .like .ensures .1 (c .before .if1 .taken)) (lower-is _ _ (c .lower .ensures)),
+    λ t l w m. (
+      tight-like (w .holds) (rw (← l .rules .processors) (z .2)) (w .ledger) (omega (arith, l .rules .processors, z .2, k .like .ensures .0)) (k .like .ensures .1 (c .before .if1 .taken)) (lower-is _ _ (c .lower .ensures)),
       m,
     ))  -- returns
     (λ c κs.
     let z = c .before .before .before .before .before .before .pre in
-    ((z .0 .0, z .0 .1, z .0 .2, z .0 .3, z .0 .4, z .0 .5, z .0 .6 .knows), z .1, z .2))  -- pack-requires
+    ((z .0 .0, z .0 .1, z .0 .2, z .0 .3 .knows), z .1, z .2))  -- pack-requires
     (λ c. search needs)  -- same-length
-    (λ c t l f w e o m. let a = c .before .before .pack .ensures t l f w e o (m .knows) in (a .0, record { knows = a .1; keeps = m .keeps }))  -- returns-2
+    (λ c t l w m. let a = c .before .before .pack .ensures t l w (m .knows) in (a .0, record { knows = a .1; keeps = m .keeps }))  -- returns-2
     (λ c κs. let z = c .before .before .before .before .before .before .before .pre in (z .0, z .1, z .2, c .before .before .before .if2 .left))  -- pack-once-requires
     (λ c. search needs)  -- same-length-2
-    (λ c t l f w e o m. c .before .before .pack-once .ensures t l f w e o m))  -- returns-3
+    (λ c t l w m. c .before .before .pack-once .ensures t l w m))  -- returns-3

@@ -14,7 +14,7 @@ use Rattle.region.specs.Lends.{Lends}
 use Rattle.offer.specs.Offer.{Choices}
 use Rattle.offer.proofs.Choosing.{below-more, open-below, eligible-below}
 use Rattle.memo.specs.Memo.{Learnt}
-use Rattle.weighing.proofs.Tightening.{light-of, tops-start, Tightening, tightening-start, tightening-next, tightening-end}
+use Rattle.weighing.proofs.Tightening.{light-of, tops-start, Tightening, tightening-start, tightening-topped, tightening-next, tightening-end}
 use Rattle.weighing.proofs.weigh.Statement.{statement}
 use Rattle.weighing.proofs.weigh.Tie as tie
 
@@ -66,7 +66,7 @@ weigh-spec =
     let i = c .before .before .before .before .before in
     let z = i .before .before .before .before .before .before .before .pre in
     let v = i .loop .inv .4 (z .0 .0) (z .0 .1) (z .0 .2) (z .0 .3) (z .0 .4) (z .0 .5) in
-    ((z .0 .0, z .0 .1, z .0 .2, v .0 .ledger, (λ p low. z .0 .4 p low .eligible), v .0 .holds, v .1), z .1, c .before .before .before .before .loop-test .taken))  -- tighten-requires
+    ((z .0 .0, z .0 .1, tightening-topped (v .0) (z .0 .2) (z .0 .4), v .1), z .1, c .before .before .before .before .loop-test .taken))  -- tighten-requires
     (λ c.
     let i = c .before .before .before .before .before .before .before in
     let l = i .before .before .before .before .before .before .before .before .pre .0 .1 .rules in
@@ -84,7 +84,7 @@ weigh-spec =
     let v = i .loop .inv .4 (z .0 .0) (z .0 .1) (z .0 .2) (z .0 .3) (z .0 .4) (z .0 .5) in (
       omega (arith, l .processors, l .sound .processors .most),
       tightening-next (v .0) (omega (arith, i .loop .inv .1, b .loop-test .taken, l .processors, l .sound .processors .most)) (x .tighten .result)
-          (x .tighten .ensures (z .0 .0) (z .0 .1) (z .0 .2) (v .0 .ledger) (λ p low. z .0 .4 p low .eligible) (v .0 .holds) (v .1) .0) .holds .small,
+          (x .tighten .ensures (z .0 .0) (z .0 .1) (tightening-topped (v .0) (z .0 .2) (z .0 .4)) (v .1) .0) .holds .small,
     ))  -- total-requires-2
     (λ c.
     let i = c .before .before .before .before .before .before .before .before in
@@ -101,7 +101,7 @@ weigh-spec =
       x .tighten .kept .1 .1 .1 .1 .1 .1 .1 .1 .1 .1 .0 ∙ i .loop .inv .3,
       λ t l f w o k.
           let v = i .loop .inv .4 t l f w o k in
-          let a = x .tighten .ensures t l f (v .0 .ledger) (λ p low. o p low .eligible) (v .0 .holds) (v .1) in
+          let a = x .tighten .ensures t l (tightening-topped (v .0) f o) (v .1) in
           (tightening-next (v .0) (omega (arith, i .loop .inv .1, b .loop-test .taken, l .rules .processors, l .rules .sound .processors .most)) (x .tighten .result) (a .0), a .1),
     ))  -- loop-again
     (λ c. search needs)  -- same-length
