@@ -131,7 +131,73 @@ fn explore<'a>(
     )
 }
 
-// The region below a state: an open task by `pick`, on each processor in turn. One that no processor can take is blamed.
+// The region below a state with open tasks: one of them by `pick`, on each processor in turn. One that no processor can take is blamed.
+fn branch<'a>(
+    timing: &'a Timing,
+    columns: &'a Columns,
+    messages: &'a Messages,
+    sizes: Sizes,
+    s: State,
+    mode: Mode,
+    list: &mut [u8],
+    count: usize,
+    notes: &mut Notes,
+    known: &mut Known,
+    memo: &mut Memo,
+) -> Sought
+    requires { ⌜ ((t : Table) × Lends t sizes (now timing) (now columns) (now messages) × Begins t (mode .listing) (mode .places) s (now list) count × Learnt t (now columns) (now known) (now memo)) × (0 < s .left) ⌝ }
+    ensures { λ r. ⌜ ((t : Table) → Lends t sizes (now (timing .entry)) (now (columns .entry)) (now (messages .entry))
+        → Begins t (mode .listing) (mode .places) s (now (list .entry)) count → Learnt t (now (columns .entry)) (now (known .entry)) (now (memo .entry)) → SoughtIn t (mode .listing) (mode .limited) (mode .places) (standing (s .on)) (now (list .entry)) count (now (list .exit)) r × Learnt t (now (columns .entry)) (now (known .exit)) (now (memo .exit))) ⌝ }
+{
+    let on = s.on;
+    let k = branching::pick(
+        timing,
+        columns,
+        messages,
+        sizes,
+        s,
+        mode,
+        list,
+        count,
+        notes,
+        known,
+    );
+    let first = offset(sizes.processors, notes);
+    let mut at = count;
+    let mut i: usize = 0;
+    while i < sizes.processors {
+        let p = turned(first, i, sizes.processors);
+        let sought = explore(
+            timing,
+            columns,
+            messages,
+            sizes,
+            s,
+            k,
+            p,
+            mode,
+            list,
+            at,
+            notes,
+            known,
+            memo,
+        );
+        if !sought.none {
+            return sought;
+        }
+        at = sought.count;
+        i += 1;
+    }
+    notes::blame(notes, k);
+    Sought {
+        found: false,
+        none: true,
+        on,
+        count: at,
+    }
+}
+
+// The region below a state: the placement at hand where no task is open, nothing where the bound gives the region up, else its branches.
 pub fn seek<'a>(
     timing: &'a Timing,
     columns: &'a Columns,
@@ -187,7 +253,7 @@ pub fn seek<'a>(
             count: bounded.count,
         };
     }
-    let k = branching::pick(
+    branch(
         timing,
         columns,
         messages,
@@ -198,38 +264,6 @@ pub fn seek<'a>(
         bounded.count,
         notes,
         known,
-    );
-    let first = offset(sizes.processors, notes);
-    let mut at = bounded.count;
-    let mut i: usize = 0;
-    while i < sizes.processors {
-        let p = turned(first, i, sizes.processors);
-        let sought = explore(
-            timing,
-            columns,
-            messages,
-            sizes,
-            s,
-            k,
-            p,
-            mode,
-            list,
-            at,
-            notes,
-            known,
-            memo,
-        );
-        if !sought.none {
-            return sought;
-        }
-        at = sought.count;
-        i += 1;
-    }
-    notes::blame(notes, k);
-    Sought {
-        found: false,
-        none: true,
-        on,
-        count: at,
-    }
+        memo,
+    )
 }
