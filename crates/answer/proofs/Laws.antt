@@ -1,58 +1,17 @@
--- Laws of the answer's layout: which sets a list of conflicts covers, the conflicts in the part after the head, the whole buffer.
+-- Laws of the answer's layout: the conflicts in the part after the head, the whole buffer.
 -- Assumes nothing.
 use mathlib.Core.Path.{_≡_, refl, sym, ap, _∙_}
-use mathlib.Core.Bool.{Bool, false, _||_, or-assoc, or-comm}
+use mathlib.Core.Bool.{Bool}
 use mathlib.Core.List.{List, [], _∷_, _++_, append-assoc, append-nil}
 use Prim.Native.Nat.{ℕ, zero, suc, _+_, _-_, _*_, _^_, _≤_, _<_}
 use native.Mathlib.Omega.{arith}
-use lib.Dec.{T, ltb, ltb→lt, lt→ltb}
 use lib.ListN.{length, getD, take, drop, length-append, length-drop}
 use lib.Seq.{length-take-le, take-at, drop-at, drop-drop}
 use borrow.Rule.Slice.PartMut.{midOf, putMid}
-use Rattle.finite.specs.Finite.{someBelow, firstBelow}
-use Rattle.finite.proofs.Some.{some-intro, some-elim}
-use Rattle.finite.proofs.Search.{FirstBelow, first-below, lowest, nowhere}
-use Rattle.mask.specs.Mask.{Subset, within}
-use Rattle.mask.proofs.Tests.{same-test}
-use Rattle.mask.proofs.Laws.{within-subset}
 use Rattle.wire.specs.Wire.{number, recordBytes}
 use Rattle.wire.proofs.Laws.{number-at, number-behind, record-length}
 use Rattle.wire.proofs.Part.{over}
-use Rattle.answer.specs.Answer.{conflictBytes, records, endBytes, countOf, answerBytes, laid, maskAt, coveredBy, Listing}
-
--- ---- the sets that a list covers
-
-some-front : (n : ℕ) (p : ℕ → Bool) → someBelow (suc n) p ≡ (p 0 || someBelow n (λ j. p (suc j)))
-unfolding someBelow
-some-front zero p = or-comm false (p 0)
-some-front (suc n) p = ap (λ (b : Bool). b || p (suc n)) (some-front n p) ∙ or-assoc (p 0) (someBelow n (λ j. p (suc j))) (p (suc n))
-
--- the first number that passes is below n exactly where some number does
-pub first-some : (n : ℕ) (p : ℕ → Bool) → ltb (firstBelow n p) n ≡ someBelow n p
-first-some n p = go (first-below n p)
-  where
-    go : FirstBelow n p (firstBelow n p) → ltb (firstBelow n p) n ≡ someBelow n p
-    go (lowest l t h) = same-test _ _ (λ u. some-intro n p _ l t) (λ u. lt→ltb _ _ l)
-    go (nowhere e h) =
-        same-test _ _ (λ u. absurd (omega (arith, ltb→lt (firstBelow n p) n u))) (λ u. let r = some-elim n p u in absurd (h (r .0) (r .1) (r .2)))
-
-covered-some : (cs : List ℕ) (set : ℕ) → coveredBy cs set ≡ someBelow (length cs) (λ j. within (getD cs j 0) set)
-unfolding coveredBy someBelow
-covered-some [] set = refl
-covered-some (c ∷ cs) set =
-    ap (λ (b : Bool). within c set || b) (covered-some cs set) ∙ sym (some-front (length cs) (λ j. within (getD (c ∷ cs) j 0) set))
-
--- where a set is covered some element is a subset
-pub covered-elim : (cs : List ℕ) (set : ℕ) → T (coveredBy cs set) → (j : ℕ) × (j < length cs) × Subset (getD cs j 0) set
-covered-elim cs set t =
-    let r = some-elim (length cs) (λ i. within (getD cs i 0) set) (rw (covered-some cs set) at t) in
-    (r .0, r .1, within-subset (getD cs (r .0) 0) set (r .2))
-
-pub covered-append : (cs ds : List ℕ) (set : ℕ) → coveredBy (cs ++ ds) set ≡ (coveredBy cs set || coveredBy ds set)
-unfolding coveredBy
-covered-append [] ds set = refl
-covered-append (c ∷ cs) ds set =
-    ap (λ (b : Bool). within c set || b) (covered-append cs ds set) ∙ sym (or-assoc (within c set) (coveredBy cs set) (coveredBy ds set))
+use Rattle.answer.specs.Answer.{conflictBytes, records, endBytes, countOf, answerBytes, laid, maskAt, Listing}
 
 -- ---- conflict records
 

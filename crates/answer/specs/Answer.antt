@@ -1,11 +1,10 @@
 -- The layout of the search answer in the caller's buffer. Assumes nothing.
 use mathlib.Core.Path.{_≡_}
-use mathlib.Core.Bool.{Bool, false, _||_}
+use mathlib.Core.Bool.{Bool}
 use mathlib.Core.List.{List, [], _∷_, _++_}
 use Prim.Native.Nat.{ℕ, _+_, _-_, _*_, _/_, _^_, _≤_, _<_}
 use lib.ListN.{length, getD, take, drop, replicate}
 use Rattle.finite.specs.Finite.{only}
-use Rattle.mask.specs.Mask.{within}
 use Rattle.wire.specs.Wire.{number, recordBytes}
 
 -- 01: the head is `AL` and n processor bytes
@@ -48,11 +47,6 @@ laid at new old = take at old ++ (new ++ drop (at + length new) old)
 -- the mask of conflict record j in the part after the head (01: `NG` and a 32-bit mask each)
 abbrev pub maskAt : List ℕ → ℕ → ℕ
 maskAt list j = number list (6 * j + 2) 4
-
--- some mask of the list is a subset of the set
-unfoldable pub coveredBy : List ℕ → ℕ → Bool
-coveredBy [] set = false
-coveredBy (c ∷ cs) set = within c set || coveredBy cs set
 
 -- what the part after the head holds once cs are listed, where it held old (01: it is lent on to the writer of conflict records):
 -- the records and, behind them, what it held. There is room for the end, and each mask has 32 bits.

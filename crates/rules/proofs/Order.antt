@@ -1,6 +1,6 @@
 -- The first broken rule: what its definition finds, and what a placement without one keeps. Assumes nothing.
 use mathlib.Core.Path.{_≡_, refl, sym, ap, subst, _∙_}
-use mathlib.Core.Bool.{Bool, false, cond}
+use mathlib.Core.Bool.{Bool, cond}
 use Prim.Native.Nat.{ℕ, suc, _≤_, _<_}
 use native.Mathlib.Omega.{arith}
 use native.Mathlib.Decide.{ℕ-discrete}
@@ -153,10 +153,3 @@ module _ (t : Table) (on : ℕ → ℕ → Bool) (late : ℕ → Bool) where
           let at : j ≡ k = cc in
           let v = subst (λ (s : Rule). BrokenFirst t on late 101 s k) same (subst (BrokenFirst t on late 101 r) at w) in
           (keeps-of (λ s l. v .earlier s (numbers s .0) l), v)
-
-pub keeps? : (t : Table) (on : ℕ → ℕ → Bool) → Dec (Keeps t on)
-keeps? t on = go (first-broken t on (λ k. false))
-  where
-    go : {c : Check} → Finds t on (λ k. false) 101 c → Dec (Keeps t on)
-    go (none f) = yes (keeps-of t on (λ k. false) (λ s l. f s (numbers s .0)))
-    go (one {r = r} {k = j} w) = no (λ k. of-keeps t on (λ k. false) k (λ i l u. u) r j (w .within) (w .breaks))

@@ -117,9 +117,6 @@ number-add s at (suc w) u =
 pub number-one : (s : List ℕ) (at : ℕ) → number s at 1 ≡ getD s at 0
 number-one s at = omega (arith, number-suc s at 0, number-zero s (suc at))
 
-pub number-two : (s : List ℕ) (at : ℕ) → number s at 2 ≡ getD s at 0 + getD s (at + 1) 0 * 256
-number-two s at = omega (arith, number-add s at 1 1, number-one s at, number-one s (at + 1))
-
 -- the bytes of a number of four
 pub bytes-four : (v : ℕ) → bytes 4 v ≡ v % 256 ∷ v / 256 % 256 ∷ v / 65536 % 256 ∷ v / 16777216 % 256 ∷ []
 unfolding bytes

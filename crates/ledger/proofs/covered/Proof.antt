@@ -5,7 +5,7 @@ use lib.Dec.{ltb}
 use native.Mathlib.Omega.{arith}
 use borrow.Author.Needs.{needs}
 use Rattle.finite.proofs.Some.{some-true}
-use Rattle.answer.proofs.Laws.{first-some}
+use Rattle.mask.proofs.Tests.{first-some}
 use Rattle.known.proofs.Laws.{knows-hint}
 use Rattle.ledger.proofs.covered.Statement.{statement}
 use Rattle.ledger.proofs.covered.Tie as tie
