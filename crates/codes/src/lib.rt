@@ -3,7 +3,7 @@ ghost use mathlib.Core.Path.{_≡_};
 ghost use Prim.Native.Nat.{_≤_};
 ghost use Rattle.table.specs.Refusal.{causeNumber};
 ghost use Rattle.rules.specs.Rules.{ruleNumber};
-ghost use Rattle.judge.specs.Judge.{numberOf};
+ghost use Rattle.judge.specs.Judge.{judgementNumber};
 ghost use Rattle.conflict.specs.Conflict as conflicts;
 use conflict::Finding;
 use judge::Judgement;
@@ -50,7 +50,7 @@ pub fn rule_number(rule: Rule) -> u16
 
 // The number that the buyer's configuration tool takes back: the refusal's, or 0, or the broken rule's.
 pub fn judgement_number(j: Judgement) -> u16
-    ensures { λ r. ⌜ r ≡ numberOf j ⌝ }
+    ensures { λ r. ⌜ r ≡ judgementNumber j ⌝ }
 {
     match j {
         Judgement::Refused(cause, _) => cause_number(cause),
@@ -61,7 +61,7 @@ pub fn judgement_number(j: Judgement) -> u16
 
 // The number of a conflict check's finding.
 pub fn finding_number(finding: Finding) -> u64
-    ensures { λ r. ⌜ r ≡ conflicts.numberOf finding ⌝ }
+    ensures { λ r. ⌜ r ≡ conflicts.findingNumber finding ⌝ }
 {
     match finding {
         Finding::NoConflict => 0,

@@ -20,7 +20,8 @@ use Rattle.table.specs.Table.{column}
 use Rattle.table.specs.Sound.{Sound}
 use Rattle.table.proofs.Columns.{column-in, column-beyond}
 use Rattle.rules.specs.Rules.{amountOf}
-use Rattle.rules.proofs.Bounds.{amount-bound, work-le}
+use Rattle.load.proofs.Work.{work-le}
+use Rattle.rules.proofs.Bounds.{amount-bound}
 use Rattle.columns.specs.Columns.{loadsOf, amountsOf, besideOf, neighboursOf}
 
 -- what holds of 0 and of each number holds at every place of their column

@@ -50,7 +50,7 @@ fn load_at(t: Table, k: usize) -> u32
     if tasks.count <= k {
         return 0;
     }
-    let load = Load::IDLE.with_task(tasks.c[k], tasks.t[k], t.hyperperiod);
+    let load = Load::of_task(tasks.c[k], tasks.t[k], t.hyperperiod);
     load.0 as u32
 }
 

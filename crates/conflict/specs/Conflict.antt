@@ -20,10 +20,10 @@ pub record Minimal (s : Tasks) (set : ℕ) : Type 0 where
   pub needed : (k : ℕ) → Needed s set k
 
 -- 01: a conflict check answers 0 no conflict, 1 late but not minimal, 2 minimal
-abbrev pub numberOf : Finding → ℕ
-numberOf NoConflict = 0
-numberOf NotMinimal = 1
-numberOf MinimalConflict = 2
+abbrev pub findingNumber : Finding → ℕ
+findingNumber NoConflict = 0
+findingNumber NotMinimal = 1
+findingNumber MinimalConflict = 2
 
 -- what each finding says of the set, in the tick run
 abbrev pub Right : Tasks → ℕ → Finding → Type 0

@@ -14,7 +14,7 @@ use table::Outcome;
 use table::Table;
 use verdict::Cause;
 
-// What a conflict check finds. numberOf of specs/Conflict.antt gives its number.
+// What a conflict check finds. findingNumber of specs/Conflict.antt gives its number.
 pub enum Finding {
     NoConflict,
     NotMinimal,

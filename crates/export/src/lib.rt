@@ -2,7 +2,7 @@
 ghost use mathlib.Core.Path.{_≡_};
 ghost use Prim.Native.Nat.{_≤_};
 ghost use Rattle.table.specs.Table.{readOf};
-ghost use Rattle.judge.specs.Judge.{judgeOf, numberOf};
+ghost use Rattle.judge.specs.Judge.{judgeOf, judgementNumber};
 ghost use Rattle.conflict.specs.Count.{lateCountOf};
 ghost use Rattle.conflict.specs.Entry.{answerOf};
 ghost use Rattle.export.specs.Answers.{refusedAs, readAs, conflictAs, SearchedAs};
@@ -44,7 +44,7 @@ pub extern "C" fn placement_conflict(file: &[u8], mask: u32) -> u64
 // The buyer's configuration tool: the refusal's number, or 0, or the broken rule's.
 #[no_mangle]
 pub extern "C" fn placement_judge(file: &[u8], placement: &[u8]) -> u16
-    ensures { λ r. ⌜ r ≡ numberOf (judgeOf (now (file .entry)) (now (placement .entry)) .judgement) ⌝ }
+    ensures { λ r. ⌜ r ≡ judgementNumber (judgeOf (now (file .entry)) (now (placement .entry)) .judgement) ⌝ }
 {
     let judged = judge::judge(file, placement);
     let judgement = judged.judgement;

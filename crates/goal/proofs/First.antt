@@ -24,7 +24,7 @@ use Rattle.rules.specs.declared.Rule.the-variants.{Residence, CoResidence, Excl
 use Rattle.rules.specs.Rules.{ruleNumber}
 use Rattle.judge.specs.declared.Judgement.{Judgement}
 use Rattle.judge.specs.declared.Judgement.the-variants.{Refused, Kept, Broken}
-use Rattle.judge.specs.Judge.{PlacementOf, judgedOn, judgeOf, numberOf}
+use Rattle.judge.specs.Judge.{PlacementOf, judgedOn, judgeOf, judgementNumber}
 use Rattle.judge.specs.Good.{Good}
 use Rattle.judge.proofs.InTime.{judged-kept}
 use Rattle.answer.specs.Answer.{foundHead, noneHead}
@@ -60,7 +60,7 @@ rule-some Utilisation = omega arith
 rule-some Network = omega arith
 rule-some Deadline = omega arith
 
-zero-kept : (j : Judgement) → numberOf j ≡ 0 → j ≡ Kept
+zero-kept : (j : Judgement) → judgementNumber j ≡ 0 → j ≡ Kept
 zero-kept (Refused cause place) e = absurd (omega (arith, cause-some cause))
 zero-kept Kept e = refl
 zero-kept (Broken rule k) e = absurd (omega (arith, rule-some rule))
@@ -77,7 +77,7 @@ module _ {t : Table} (s : Sound t) (q : List ℕ) where
   kept-good = rw (read-encode t s) at (judged-kept (encode t) (encode-bytes t) (ap (λ (r : Reading). r .outcome) (read-encode t s)) q)
 
   pub is-good : T (isGood t q) → Good t q
-  is-good u = kept-good .0 (zero-kept (judgedOn t q .judgement) (eqb→eq (numberOf (judgedOn t q .judgement)) 0 u))
+  is-good u = kept-good .0 (zero-kept (judgedOn t q .judgement) (eqb→eq (judgementNumber (judgedOn t q .judgement)) 0 u))
 
   pub good-is : Good t q → T (isGood t q)
   good-is g = rw (kept-good .1 g) tt

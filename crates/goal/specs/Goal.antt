@@ -15,7 +15,7 @@ use Rattle.rules.specs.declared.Check.the-variants.{Kept, Broken}
 use Rattle.rules.specs.Placement.{placed}
 use Rattle.rules.specs.Rules.{residenceBroken, firstBroken}
 use Rattle.rules.specs.Sets.{setsOf}
-use Rattle.judge.specs.Judge.{judgedOn, numberOf}
+use Rattle.judge.specs.Judge.{judgedOn, judgementNumber}
 use Rattle.answer.specs.Answer.{foundHead, noneHead}
 use Rattle.goal.specs.Order.{placementAt}
 
@@ -29,7 +29,7 @@ nth t i = placementAt (t .tasks .count) (t .processors .count) i
 
 -- 01: it keeps the placement rules and has no late job: the judge answers 0
 abbrev pub isGood : Table → List ℕ → Bool
-isGood t q = eqb (numberOf (judgedOn t q .judgement)) 0
+isGood t q = eqb (judgementNumber (judgedOn t q .judgement)) 0
 
 -- 01: the first is the one that is good where every earlier one is not; here its number, or the number of all placements where none is good.
 -- So the placements with smaller numbers are those that 01 calls earlier; with `NO`, all of them.

@@ -18,7 +18,7 @@ use Rattle.verdict.specs.Faults.{verdict, recordVerdict, contentVerdict, hyperp
 use Rattle.table.specs.declared.Table.{Table}
 use Rattle.table.specs.Scan.{scanOf, scanFrom, atEnd, missing}
 use Rattle.table.specs.Table.{column, readOf, tableOf, emptyTable}
-use Rattle.table.specs.Encode.{encode, recordsTo, recordBytes, fieldBytes}
+use Rattle.table.specs.Encode.{encode, recordsTo, encodeRecord, fieldBytes}
 use Rattle.table.specs.Sound.{Sound}
 use Rattle.table.proofs.Sound.{read-sound}
 use Rattle.table.proofs.EncodedBytes.{encode-bytes}
@@ -164,5 +164,5 @@ minimal-by t s set low e none = record {
     smaller k = has set k && lateTest (tasksIn t) (has (removeOf set k))
 
 pub cases-hold : AllHold cases
-unfolding judgeOf judgedOn firstUnknown responsesOf firstBroken checkRule firstBelow someBelow sumTo firstFrom elsewhere apart together somePair residenceBroken coResidenceBroken exclusionBroken memoryBroken memoryOn utilisationBroken loadOn networkBroken traffic response leastSolution demand ceil readOf tableOf emptyTable column scanOf scanFrom atEnd missing encode recordsTo recordBytes fieldBytes verdict recordVerdict contentVerdict hyperperiodTooLarge messageRepeated periodsDiffer priorityUsed notInFile badPair badGroup badResidence outOfRange tooMany outOfOrder kindAt recordCut markCut little number bytes markAt lcm lcmTo
+unfolding judgeOf judgedOn firstUnknown responsesOf firstBroken checkRule firstBelow someBelow sumTo firstFrom elsewhere apart together somePair residenceBroken coResidenceBroken exclusionBroken memoryBroken memoryOn utilisationBroken loadOn networkBroken traffic response leastSolution demand ceil readOf tableOf emptyTable column scanOf scanFrom atEnd missing encode recordsTo encodeRecord fieldBytes verdict recordVerdict contentVerdict hyperperiodTooLarge messageRepeated periodsDiffer priorityUsed notInFile badPair badGroup badResidence outOfRange tooMany outOfOrder kindAt recordCut markCut little number bytes markAt lcm lcmTo
 cases-hold = (refl, (refl, (minimal-by (readOf (fileOf minimal-case) .table) (read-sound (fileOf minimal-case) (encode-bytes (tableFor minimal-case)) refl) 7 tt refl refl, (refl, (refl, (refl, (refl, (refl, (refl, (refl, (refl, (refl, tt))))))))))))

@@ -33,7 +33,7 @@ use Rattle.rules.specs.Sets.{missed}
 use Rattle.rules.proofs.Order.{kept-keeps, keeps-kept, deadline-broken}
 use Rattle.judge.specs.declared.Judgement.the-variants.{Kept, Broken}
 use Rattle.judge.specs.declared.Judged.{Judged}
-use Rattle.judge.specs.Judge.{PlacementOf, firstUnknown, responsesOf, judgementBy, judgedPlacement, refusal, judgedOn, judgeOf}
+use Rattle.judge.specs.Judge.{PlacementOf, firstUnknown, responsesOf, judgementBy, judgedPlacement, refusedJudgement, judgedOn, judgeOf}
 use Rattle.judge.specs.Good.{Good}
 use Rattle.judge.proofs.Limits.{all-known}
 
@@ -41,8 +41,8 @@ use Rattle.judge.proofs.Limits.{all-known}
 
 -- the three outcomes on a table that was read
 data Judging (t : Table) (q : List ℕ) : Judged → Type 0 where
-  wrong-length : length q ≢ t .tasks .count → Judging t q (refusal PlacementLength 0)
-  unknown-byte : (k : ℕ) → k < length q → t .processors .count ≤ getD q k 0 → Judging t q (refusal UnknownProcessor k)
+  wrong-length : length q ≢ t .tasks .count → Judging t q (refusedJudgement PlacementLength 0)
+  unknown-byte : (k : ℕ) → k < length q → t .processors .count ≤ getD q k 0 → Judging t q (refusedJudgement UnknownProcessor k)
   placement : PlacementOf t q → Judging t q (judgedPlacement t q)
 
 judging : (t : Table) (q : List ℕ) → Judging t q (judgedOn t q)

@@ -51,29 +51,29 @@ abbrev pub judgedPlacement : Table → List ℕ → Judged
 judgedPlacement t q = record { judgement = judgementBy (firstBroken t (placed q) (missed (responsesOf t q))); responses = responsesOf t q }
 
 -- a refusal: the cause and its place, and no response
-abbrev pub refusal : Cause → ℕ → Judged
-refusal cause place = record { judgement = Refused cause place; responses = replicate 24 0 }
+abbrev pub refusedJudgement : Cause → ℕ → Judged
+refusedJudgement cause place = record { judgement = Refused cause place; responses = replicate 24 0 }
 
 -- on a table that was read: 13, then 14, then the rules
 unfoldable pub judgedOn : Table → List ℕ → Judged
 judgedOn t q =
     cond (eqb (length q) (t .tasks .count))
-    (cond (ltb (firstUnknown (t .processors .count) q) (length q)) (refusal UnknownProcessor (firstUnknown (t .processors .count) q)) (judgedPlacement t q))
-    (refusal PlacementLength 0)
+    (cond (ltb (firstUnknown (t .processors .count) q) (length q)) (refusedJudgement UnknownProcessor (firstUnknown (t .processors .count) q)) (judgedPlacement t q))
+    (refusedJudgement PlacementLength 0)
 
 -- the file's refusals come first
 abbrev pub judgedBy : Outcome → Table → List ℕ → Judged
-judgedBy (outcomes.Refused cause place) t q = refusal cause place
+judgedBy (outcomes.Refused cause place) t q = refusedJudgement cause place
 judgedBy outcomes.Readable t q = judgedOn t q
 
 unfoldable pub judgeOf : List ℕ → List ℕ → Judged
 judgeOf file q = judgedBy (readOf file .outcome) (readOf file .table) q
 
 -- 01: one number: the refusal's, or 0, or the broken rule's
-abbrev pub numberOf : Judgement → ℕ
-numberOf (Refused cause place) = causeNumber cause
-numberOf Kept = 0
-numberOf (Broken rule k) = ruleNumber rule
+abbrev pub judgementNumber : Judgement → ℕ
+judgementNumber (Refused cause place) = causeNumber cause
+judgementNumber Kept = 0
+judgementNumber (Broken rule k) = ruleNumber rule
 
 -- the refusal's place, or the number concerned, 0 beside answer 0
 abbrev pub concernedOf : Judgement → ℕ

@@ -5,7 +5,7 @@ ghost use Rattle.finite.specs.Finite.{only};
 ghost use Rattle.table.specs.Sound.{Sound};
 ghost use Rattle.schedule.specs.Arrays.{tasksOf};
 ghost use Rattle.rules.specs.Sets.{setsOf};
-ghost use Rattle.judge.specs.Judge.{PlacementOf, firstUnknown, responseOf, responsesOf, refusal, judgementBy, judgedOn, judgeOf};
+ghost use Rattle.judge.specs.Judge.{PlacementOf, firstUnknown, responseOf, responsesOf, refusedJudgement, judgementBy, judgedOn, judgeOf};
 ghost use Rattle.judge.specs.Arrays.{Placed};
 use rules::Check;
 use rules::Rule;
@@ -28,7 +28,7 @@ pub struct Judged {
 }
 
 fn refused(cause: Cause, place: usize) -> Judged
-    ensures { λ r. ⌜ r ≡ refusal cause place ⌝ }
+    ensures { λ r. ⌜ r ≡ refusedJudgement cause place ⌝ }
 {
     Judged {
         judgement: Judgement::Refused(cause, place),

@@ -30,13 +30,13 @@ row CoResident = record { order = 3; mark = 67 ∷ 79 ∷ []; widths = 4 ∷ [];
 row Exclusive = record { order = 4; mark = 69 ∷ 88 ∷ []; widths = 4 ∷ []; most = 16; next = 4 }
 row Message = record { order = 5; mark = 77 ∷ 83 ∷ []; widths = 1 ∷ 1 ∷ 4 ∷ []; most = 64; next = 5 }
 
-abbrev pub total : List ℕ → ℕ
-total [] = 0
-total (w ∷ ws) = w + total ws
+abbrev pub totalWidth : List ℕ → ℕ
+totalWidth [] = 0
+totalWidth (w ∷ ws) = w + totalWidth ws
 
 -- a record's bytes: the mark's two, then its fields (01: nothing stands between records)
 abbrev pub size : Kind → ℕ
-size k = 2 + total (row k .widths)
+size k = 2 + totalWidth (row k .widths)
 
 -- the numbers of a kind, as the code holds them
 abbrev pub shape : ℕ → ℕ → ℕ → ℕ → Shape
@@ -54,26 +54,17 @@ fieldsFrom (w ∷ ws) o s at = number s (at + o) w ∷ fieldsFrom ws (o + w) s a
 abbrev pub field : Kind → ℕ → List ℕ → ℕ → ℕ
 field k i s at = getD (fieldsFrom (row k .widths) 2 s at) i 0
 
-abbrev pub capacity : List ℕ → ℕ → ℕ
-capacity = field Network 0
-
-abbrev pub processorMemory : List ℕ → ℕ → ℕ
-processorMemory = field Processor 0
-
 abbrev pub limit : List ℕ → ℕ → ℕ
 limit = field Processor 1
 
-abbrev pub C : List ℕ → ℕ → ℕ
-C = field Task 0
+abbrev pub executionTime : List ℕ → ℕ → ℕ
+executionTime = field Task 0
 
-abbrev pub T : List ℕ → ℕ → ℕ
-T = field Task 1
+abbrev pub period : List ℕ → ℕ → ℕ
+period = field Task 1
 
-abbrev pub D : List ℕ → ℕ → ℕ
-D = field Task 2
-
-abbrev pub taskMemory : List ℕ → ℕ → ℕ
-taskMemory = field Task 3
+abbrev pub deadline : List ℕ → ℕ → ℕ
+deadline = field Task 2
 
 abbrev pub priority : List ℕ → ℕ → ℕ
 priority = field Task 4

@@ -1,8 +1,8 @@
 // The format of the table file: the kinds of record, their marks and sizes, and where the records of a kind stand.
 ghost use mathlib.Core.Path.{_≡_};
-ghost use Prim.Native.Nat.{_+_, _≤_};
+ghost use Prim.Native.Nat.{_+_, _≤_, _<_};
 ghost use lib.ListN.{length};
-ghost use Rattle.layout.specs.Format.{shape, shapeOf, kindAt, start, Counted};
+ghost use Rattle.layout.specs.Format.{row, shape, shapeOf, kindAt, start, place, Counted};
 
 // The kinds of record, in the file's order.
 pub enum Kind {
@@ -105,4 +105,13 @@ pub fn first_of(x: Progress, kind: Kind) -> usize
         Kind::Exclusive => ex,
         Kind::Message => messages,
     }
+}
+
+// Where record j of a kind stands.
+pub fn place_of(x: Progress, kind: Kind, j: usize) -> usize
+    requires { ⌜ Counted x × (j < row kind .most) ⌝ }
+    ensures { λ r. ⌜ r ≡ place x kind j ⌝ }
+{
+    let shape = shape_of(kind);
+    first_of(x, kind) + shape.size * j
 }

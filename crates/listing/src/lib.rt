@@ -1,13 +1,9 @@
 // The text that the program prints: the listing of what the search answers.
-ghost use mathlib.Core.Path.{_≡_};
-ghost use Prim.Native.Nat.{_≤_};
-ghost use lib.ListN.{length};
 ghost use Rattle.listing.specs.Listing.{Printed};
 use search::Answer;
 
 // Searches a file and puts the listing of the answer; returns where it ends.
-pub fn listing(text: &mut [u8], file: &[u8], answer: &mut [u8]) -> usize
-    requires { ⌜ (358400 ≤ length (now text)) × (length (now answer) ≡ 16384) ⌝ }
+pub fn listing(text: &mut [u8; 358400], file: &[u8], answer: &mut [u8; 16384]) -> usize
     ensures { λ r. ⌜ Printed (now (file .entry)) (now (answer .entry)) (now (answer .exit)) (now (text .entry)) (now (text .exit)) r ⌝ }
 {
     let searched = search::search(file, answer);

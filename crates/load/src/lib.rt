@@ -7,12 +7,21 @@ ghost use lib.Dec.{ltb};
 pub struct Load(pub u64);
 
 impl Load {
+    // No work: `of_task` says so, as a task alone on an idle processor is all of its load.
     pub const IDLE: Load = Load(0);
 
     pub fn full(h: u64) -> Self
         ensures { λ r. ⌜ r .0 ≡ h ⌝ }
     {
         Load(h)
+    }
+
+    // That of one task alone on an idle processor: C × H / T.
+    pub fn of_task(c: u32, t: u32, h: u64) -> Self
+        requires { ⌜ (1 ≤ t) × (c ≤ t) × (t ≤ 1000000) × (h ≤ 1000000000) ⌝ }
+        ensures { λ r. ⌜ (r .0 ≡ c * h / t) × (r .0 ≤ h) ⌝ }
+    {
+        Load::IDLE.with_task(c, t, h)
     }
 
     // With one task more: C × H / T.

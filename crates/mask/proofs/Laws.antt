@@ -16,7 +16,7 @@ use Rattle.finite.proofs.Sum.{sum-at, sum-ext}
 use Rattle.finite.proofs.Some.{or-either}
 use Rattle.finite.proofs.First.{First, first, found, missing}
 use Rattle.mask.proofs.Tests.{same-test, and-both, and-left, and-right}
-use Rattle.mask.specs.Mask.{bit, has, Subset, within, below, size, insertOf, removeOf, lowestOf, maskOf}
+use Rattle.mask.specs.Mask.{bit, has, Subset, within, below, cardinality, insertOf, removeOf, lowestOf, maskOf}
 
 -- ---- a digit is 1 or 0 as the test says
 
@@ -236,34 +236,34 @@ sum-remove n m f k l t = sum-at n (λ j. only (has m j) (f j)) (λ j. only (has 
         in-m true u = omega arith
         in-m false u = absurd u
 
-size-only : (w m : ℕ) → size w m ≡ sumTo w (λ j. only (has m j) 1)
-size-only w m = sum-ext w (bit m) (λ j. only (has m j) 1) (λ j l. bit-only m j)
+cardinality-only : (w m : ℕ) → cardinality w m ≡ sumTo w (λ j. only (has m j) 1)
+cardinality-only w m = sum-ext w (bit m) (λ j. only (has m j) 1) (λ j l. bit-only m j)
 
-pub size-remove : (w m k : ℕ) → k < w → T (has m k) → size w m ≡ size w (removeOf m k) + 1
-size-remove w m k l t = omega (arith, size-only w m, size-only w (removeOf m k), sum-remove w m (λ j. 1) k l t)
+pub cardinality-remove : (w m k : ℕ) → k < w → T (has m k) → cardinality w m ≡ cardinality w (removeOf m k) + 1
+cardinality-remove w m k l t = omega (arith, cardinality-only w m, cardinality-only w (removeOf m k), sum-remove w m (λ j. 1) k l t)
 
 -- the size from two different members
-pub two-size : (w m j k : ℕ) → j ≢ k → j < w → k < w → T (has m j) → T (has m k) → 2 ≤ size w m
-two-size w m j k d lj lk tj tk =
-    omega (arith, size-remove w m j lj tj, size-remove w (removeOf m j) k lk (rw (has-remove m j k, ne-eqb k j (λ e. d (sym e))) tk))
+pub two-cardinality : (w m j k : ℕ) → j ≢ k → j < w → k < w → T (has m j) → T (has m k) → 2 ≤ cardinality w m
+two-cardinality w m j k d lj lk tj tk =
+    omega (arith, cardinality-remove w m j lj tj, cardinality-remove w (removeOf m j) k lk (rw (has-remove m j k, ne-eqb k j (λ e. d (sym e))) tk))
 
 -- a member, and two, from the size
-pub size-member : (w m : ℕ) → 1 ≤ size w m → (k : ℕ) × (k < w) × T (has m k)
+pub cardinality-member : (w m : ℕ) → 1 ≤ cardinality w m → (k : ℕ) × (k < w) × T (has m k)
 unfolding sumTo
-size-member zero m h = absurd (omega arith)
-size-member (suc w) m h = go (ℕ-discrete (bit m w) 1) (size-member w m)
+cardinality-member zero m h = absurd (omega arith)
+cardinality-member (suc w) m h = go (ℕ-discrete (bit m w) 1) (cardinality-member w m)
   where
-    go : Dec (bit m w ≡ 1) → (1 ≤ size w m → (k : ℕ) × (k < w) × T (has m k)) → (k : ℕ) × (k < suc w) × T (has m k)
+    go : Dec (bit m w ≡ 1) → (1 ≤ cardinality w m → (k : ℕ) × (k < w) × T (has m k)) → (k : ℕ) × (k < suc w) × T (has m k)
     go (yes e) ih = (w, omega arith, rw e tt)
     go (no e) ih = let r = ih (omega arith) in (r .0, omega (arith, r .1), r .2)
 
-pub size-two : (w m : ℕ) → 2 ≤ size w m → (j k : ℕ) × (j < k) × (k < w) × T (has m j) × T (has m k)
+pub cardinality-two : (w m : ℕ) → 2 ≤ cardinality w m → (j k : ℕ) × (j < k) × (k < w) × T (has m j) × T (has m k)
 unfolding sumTo
-size-two zero m h = absurd (omega arith)
-size-two (suc w) m h = go (ℕ-discrete (bit m w) 1) (size-two w m)
+cardinality-two zero m h = absurd (omega arith)
+cardinality-two (suc w) m h = go (ℕ-discrete (bit m w) 1) (cardinality-two w m)
   where
-    go : Dec (bit m w ≡ 1) → (2 ≤ size w m → (j k : ℕ) × (j < k) × (k < w) × T (has m j) × T (has m k)) → (j k : ℕ) × (j < k) × (k < suc w) × T (has m j) × T (has m k)
-    go (yes e) ih = let r = size-member w m (omega arith) in (r .0, w, r .1, omega arith, r .2, rw e tt)
+    go : Dec (bit m w ≡ 1) → (2 ≤ cardinality w m → (j k : ℕ) × (j < k) × (k < w) × T (has m j) × T (has m k)) → (j k : ℕ) × (j < k) × (k < suc w) × T (has m j) × T (has m k)
+    go (yes e) ih = let r = cardinality-member w m (omega arith) in (r .0, w, r .1, omega arith, r .2, rw e tt)
     go (no e) ih = let r = ih (omega arith) in (r .0, r .1, r .2, omega (arith, r .3), r .4, r .5)
 
 sum-low : (n : ℕ) (f : ℕ → ℕ) → sumTo (suc n) f ≡ f 0 + sumTo n (λ j. f (suc j))
@@ -272,19 +272,19 @@ sum-low zero f = omega arith
 sum-low (suc n) f = omega (arith, sum-low n f)
 
 -- the set digits of a word of w digits
-pub size-ones : (w m : ℕ) → m < 2 ^ w → size w m ≡ ones m
+pub cardinality-ones : (w m : ℕ) → m < 2 ^ w → cardinality w m ≡ ones m
 unfolding sumTo ones
-size-ones zero m h = go m h
+cardinality-ones zero m h = go m h
   where
     go : (x : ℕ) → x < 1 → 0 ≡ ones x
     go zero l = refl
     go (suc x) l = absurd (omega arith)
-size-ones (suc w) m h =
+cardinality-ones (suc w) m h =
     omega (
       arith,
       sum-low w (bit m),
       sum-ext w (λ j. bit m (suc j)) (bit (m / 2)) (λ j l. sym (bit-half m j)),
-      size-ones w (m / 2) (omega (arith, pow-suc 2 w)),
+      cardinality-ones w (m / 2) (omega (arith, pow-suc 2 w)),
       ones-step m,
     )
 

@@ -26,8 +26,8 @@ abbrev pub below : ℕ → ℕ → Bool
 below n m = ltb m (2 ^ n)
 
 -- how many numbers below w are in m
-abbrev pub size : ℕ → ℕ → ℕ
-size w m = sumTo w (bit m)
+abbrev pub cardinality : ℕ → ℕ → ℕ
+cardinality w m = sumTo w (bit m)
 
 -- m and k
 abbrev pub insertOf : ℕ → ℕ → ℕ

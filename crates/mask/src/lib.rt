@@ -3,7 +3,7 @@ ghost use mathlib.Core.Path.{_≡_};
 ghost use mathlib.Core.Bool.{true, _&&_};
 ghost use Prim.Native.Nat.{_<_};
 ghost use lib.Dec.{leb};
-ghost use Rattle.mask.specs.Mask.{has, within, below, size, insertOf, removeOf, lowestOf, maskOf};
+ghost use Rattle.mask.specs.Mask.{has, within, below, cardinality, insertOf, removeOf, lowestOf, maskOf};
 
 // Whether k is in the set.
 pub fn has(mask: u32, k: usize) -> bool
@@ -46,7 +46,7 @@ pub fn only_below(mask: u32, n: usize) -> bool
 
 // Whether the set has two numbers or more.
 pub fn at_least_two(mask: u32) -> bool
-    ensures { λ r. ⌜ r ≡ leb 2 (size 32 mask) ⌝ }
+    ensures { λ r. ⌜ r ≡ leb 2 (cardinality 32 mask) ⌝ }
 {
     2 <= u32::count_ones(mask)
 }
@@ -54,7 +54,7 @@ pub fn at_least_two(mask: u32) -> bool
 // Whether the set has two numbers or more, all of them below n.
 pub fn is_group(mask: u32, n: usize) -> bool
     requires { ⌜ n < 32 ⌝ }
-    ensures { λ r. ⌜ r ≡ (below n mask && leb 2 (size 32 mask)) ⌝ }
+    ensures { λ r. ⌜ r ≡ (below n mask && leb 2 (cardinality 32 mask)) ⌝ }
 {
     if only_below(mask, n) {
         return at_least_two(mask);

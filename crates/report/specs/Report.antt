@@ -4,6 +4,7 @@ use mathlib.Core.List.{List, _++_}
 use Prim.Native.Nat.{ℕ, _+_, _-_, _*_, _/_}
 use lib.Dec.{eqb}
 use lib.ListN.{length, getD, take, drop}
+use Rattle.wire.specs.Wire.{markAt}
 use Rattle.table.specs.declared.Table.{Table}
 use Rattle.rules.specs.Placement.{placed}
 use Rattle.rules.specs.Rules.{loadOn}
@@ -42,9 +43,9 @@ abbrev pub lastLine : Bool → List ℕ
 lastLine true = ascii "complete\n"
 lastLine false = ascii "cut\n"
 
--- the lines of the first `count` bytes of an answer: its head is `AL` (65, 76) where there is a placement, its last byte is 1 where the list is complete
+-- the lines of the first `count` bytes of an answer: its head is `AL` where there is a placement, its last byte is 1 where the list is complete
 unfoldable pub answerLines : List ℕ → Table → List ℕ → ℕ → List ℕ
 answerLines file t bytes count =
-    headLines (eqb (getD bytes 0 0) 65) file t (take (t .tasks .count) (drop 2 bytes))
+    headLines (markAt bytes 0 (ascii "AL")) file t (take (t .tasks .count) (drop 2 bytes))
     ++ conflictLines (t .tasks .count) (drop (t .tasks .count + 2) bytes) ((count - t .tasks .count - 5) / 6)
     ++ lastLine (eqb (getD bytes (count - 1) 0) 1)

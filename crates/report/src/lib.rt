@@ -122,14 +122,15 @@ fn last_line(text: &mut [u8], at: usize, complete: bool) -> usize
 }
 
 // The lines of the first `count` bytes of an answer; returns where they end.
-pub fn put_answer(text: &mut [u8], file: &[u8], table: Table, answer: &[u8], count: usize) -> usize
-    requires { ⌜ (358400 ≤ length (now text)) × Sound table × (length (now answer) ≡ 16384) × (table .tasks .count + 5 ≤ count) × (count ≤ 16384) ⌝ }
+pub fn put_answer(text: &mut [u8; 358400], file: &[u8], table: Table, answer: &[u8; 16384], count: usize) -> usize
+    requires { ⌜ Sound table × (table .tasks .count + 5 ≤ count) × (count ≤ 16384) ⌝ }
     ensures { λ r. ⌜ Put (now (text .entry)) 0 (answerLines (now (file .entry)) table (now (answer .entry)) count) (now (text .exit)) r ⌝ }
 {
     let tasks = table.tasks;
     let n = tasks.count;
-    let found = answer[0] == 65;
-    let head = put_head(text, file, table, found, &answer[2..n + 2]);
-    let end = put_conflicts(text, head, n, &answer[n + 2..], (count - n - 5) / 6);
-    last_line(text, end, answer[count - 1] == 1)
+    let bytes = &answer[..];
+    let found = wire::has_mark(bytes, 0, b"AL");
+    let head = put_head(text, file, table, found, &bytes[2..n + 2]);
+    let end = put_conflicts(text, head, n, &bytes[n + 2..], (count - n - 5) / 6);
+    last_line(text, end, bytes[count - 1] == 1)
 }

@@ -1,15 +1,11 @@
--- What a task and a message are in one hyperperiod is small: nothing wraps. Assumes nothing.
+-- What a message is in one hyperperiod is small: nothing wraps. Assumes nothing.
 use Prim.Native.Nat.{ℕ, _*_, _/_, _≤_, _<_}
 use native.Mathlib.Omega.{arith}
-use native.Mathlib.Nat.{div-le-of-le-mul, div-le-self, mul-le-mul, mul-le-mul-right}
+use native.Mathlib.Nat.{div-le-self, mul-le-mul}
 use lib.ListN.{getD}
 use Rattle.table.specs.declared.Table.{Table}
 use Rattle.table.specs.Sound.{Sound}
 use Rattle.rules.specs.Rules.{amountOf}
-
--- 01: C ≤ T, so that a task's work in one hyperperiod is at most that
-pub work-le : (c t h : ℕ) → c ≤ t → c * h / t ≤ h
-work-le c t h l = div-le-of-le-mul t (mul-le-mul-right h l)
 
 pub amount-bound : (t : Table) → Sound t → (j : ℕ) → j < t .messages .count → (getD (t .messages .amount) j 0 * t .hyperperiod ≤ 1000000000000000) × (amountOf t j ≤ 1000000000000000)
 amount-bound t s j l =

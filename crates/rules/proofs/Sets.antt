@@ -12,9 +12,9 @@ use lib.Dec.{T, eqb, leb, ltb, eqb→eq, leb→le, le→leb, ltb→lt, eqb-refl}
 use lib.ListN.{length, getD}
 use Rattle.finite.specs.Finite.{someBelow}
 use Rattle.finite.proofs.Some.{some-intro, some-elim, or-left, or-either}
-use Rattle.mask.specs.Mask.{has, below, size, insertOf, maskOf}
+use Rattle.mask.specs.Mask.{has, below, cardinality, insertOf, maskOf}
 use Rattle.mask.proofs.Tests.{same-test, and-both, and-left, and-right}
-use Rattle.mask.proofs.Laws.{has-zero, has-and, has-insert, has-mask, has-below, below-has, some-member, size-two, two-size}
+use Rattle.mask.proofs.Laws.{has-zero, has-and, has-insert, has-mask, has-below, below-has, some-member, cardinality-two, two-cardinality}
 use Rattle.table.proofs.Columns.{column-in, column-beyond}
 use Rattle.rules.specs.Placement.{placed, apart, together, somePair}
 use Rattle.rules.specs.Sets.{standing, Placeable, setsOf, meets, twoOf}
@@ -93,7 +93,7 @@ module _ (n m : ℕ) (sets : List ℕ) (g : ℕ) (low : T (below n g)) where
   group-together few = same-test (someBelow m two) (somePair n g pairs) forth back
     where
       two : ℕ → Bool
-      two p = leb 2 (size 32 (bitAnd (getD sets p 0) g))
+      two p = leb 2 (cardinality 32 (bitAnd (getD sets p 0) g))
 
       pairs : ℕ → ℕ → Bool
       pairs i j = not (eqb i j) && together m (standing sets i) (standing sets j)
@@ -102,7 +102,7 @@ module _ (n m : ℕ) (sets : List ℕ) (g : ℕ) (low : T (below n g)) where
       forth t =
           let s = some-elim m two t in
           let p = s .0 in
-          let r = size-two 32 (bitAnd (getD sets p 0) g) (leb→le 2 (size 32 (bitAnd (getD sets p 0) g)) (s .2)) in
+          let r = cardinality-two 32 (bitAnd (getD sets p 0) g) (leb→le 2 (cardinality 32 (bitAnd (getD sets p 0) g)) (s .2)) in
           let i = r .0 in
           let j = r .1 in
           let a = shared (getD sets p 0) g i (r .4) in
@@ -117,8 +117,8 @@ module _ (n m : ℕ) (sets : List ℕ) (g : ℕ) (low : T (below n g)) where
           let j = s .1 in
           let a = together-elim m (standing sets i) (standing sets j) (and-right (not (eqb i j)) (together m (standing sets i) (standing sets j)) (s .6)) in
           let p = a .0 in
-          some-intro m two p (a .1) (le→leb 2 (size 32 (bitAnd (getD sets p 0) g))
-          (two-size 32 (bitAnd (getD sets p 0) g) i j (different i j (and-left (not (eqb i j)) (together m (standing sets i) (standing sets j)) (s .6)))
+          some-intro m two p (a .1) (le→leb 2 (cardinality 32 (bitAnd (getD sets p 0) g))
+          (two-cardinality 32 (bitAnd (getD sets p 0) g) i j (different i j (and-left (not (eqb i j)) (together m (standing sets i) (standing sets j)) (s .6)))
           (omega (arith, s .2)) (omega (arith, s .3)) (sharing (getD sets p 0) g i (a .2) (s .4)) (sharing (getD sets p 0) g j (a .3) (s .5))))
 
 -- the sets of a placement's bytes

@@ -6,7 +6,7 @@ use lib.Bits.{bitAnd}
 use lib.Dec.{leb, eqb}
 use lib.ListN.{length, getD}
 use Rattle.finite.specs.Finite.{only, sumTo, someBelow}
-use Rattle.mask.specs.Mask.{has, size, maskOf}
+use Rattle.mask.specs.Mask.{has, cardinality, maskOf}
 use Rattle.table.specs.declared.Tasks.{Tasks}
 use Rattle.table.specs.Table.{column}
 
@@ -29,7 +29,7 @@ meets a b = not (eqb (bitAnd a b) 0)
 
 -- two of the group's tasks are in the set
 unfoldable pub twoOf : ℕ → ℕ → Bool
-twoOf group set = leb 2 (size 32 (bitAnd set group))
+twoOf group set = leb 2 (cardinality 32 (bitAnd set group))
 
 -- task k is in the set of a processor that is not in the mask
 unfoldable pub outsideOf : List ℕ → ℕ → ℕ → ℕ → Bool

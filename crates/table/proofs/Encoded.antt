@@ -13,24 +13,24 @@ use Rattle.layout.specs.Format.{row, size, field, fieldsFrom, count, extent, st
 use Rattle.verdict.proofs.Taken.{kind-marked}
 use Rattle.table.specs.declared.Outcome.the-variants.{Readable}
 use Rattle.table.specs.Table.{columnOf, tableOf, readOf}
-use Rattle.table.specs.Encode.{recordBytes, recordsTo, encode}
+use Rattle.table.specs.Encode.{encodeRecord, recordsTo, encode}
 use Rattle.table.proofs.Columns.{value}
 use Rattle.table.proofs.Fine.{Fine}
 use Rattle.table.proofs.Ended.{present, read-whole}
 use Rattle.table.proofs.Records.{joined, record-read, records-read}
 
 module _ {s : List ℕ} {x : Progress} (b : Bytes s) (f : Fine s (length s) x) where
-  one-read : (k : Kind) (j : ℕ) → j < count x k → recordBytes k (fieldsFrom (row k .widths) 2 s (place x k j)) ≡ take (size k) (drop (place x k j) s)
+  one-read : (k : Kind) (j : ℕ) → j < count x k → encodeRecord k (fieldsFrom (row k .widths) 2 s (place x k j)) ≡ take (size k) (drop (place x k j) s)
   one-read k j l = let a = f .stands k j l .accepted in record-read k s (place x k j) b (kind-marked s (place x k j) (a .marked)) (a .whole)
 
   -- all the records of a kind
   kind-read : (k : Kind) (g : ℕ → List ℕ) → ((j : ℕ) → j < count x k → g j ≡ fieldsFrom (row k .widths) 2 s (place x k j)) → recordsTo (count x k) k g ≡ take (extent x k) (drop (start x k) s)
-  kind-read k g e = records-read (count x k) k g s (start x k) (λ j l. ap (recordBytes k) (e j l) ∙ one-read k j l)
+  kind-read k g e = records-read (count x k) k g s (start x k) (λ j l. ap (encodeRecord k) (e j l) ∙ one-read k j l)
 
   value-at : (k : Kind) (i j : ℕ) → j < count x k → getD (columnOf (row k .most) s x k i) j 0 ≡ field k i s (place x k j)
   value-at = value (f .reached .counted) s
 
-  network-read : 1 ≤ count x Network → recordBytes Network (tableOf s x .capacity ∷ []) ≡ take (extent x Network) s
+  network-read : 1 ≤ count x Network → encodeRecord Network (tableOf s x .capacity ∷ []) ≡ take (extent x Network) s
   unfolding tableOf
   network-read l =
       let one : 1 ≡ count x Network = omega (arith, f .reached .counted .few Network) in

@@ -9,7 +9,7 @@ use Rattle.layout.specs.declared.Kind.{Kind}
 use Rattle.layout.specs.declared.Kind.the-variants.{Network, Processor, Task, CoResident, Exclusive, Message}
 use Rattle.layout.specs.Format.{row}
 use Rattle.table.specs.declared.Table.{Table}
-use Rattle.table.specs.Encode.{fieldBytes, recordBytes, recordsTo, encode}
+use Rattle.table.specs.Encode.{fieldBytes, encodeRecord, recordsTo, encode}
 
 data Small : List ℕ → Type 0 where
   none : Small []
@@ -43,8 +43,8 @@ fields-small [] vs = none
 fields-small (w ∷ ws) [] = none
 fields-small (w ∷ ws) (v ∷ vs) = both (number-small w v) (fields-small ws vs)
 
-record-small : (k : Kind) (vs : List ℕ) → Small (recordBytes k vs)
-unfolding recordBytes
+record-small : (k : Kind) (vs : List ℕ) → Small (encodeRecord k vs)
+unfolding encodeRecord
 record-small k vs = both (mark-small k) (fields-small (row k .widths) vs)
 
 records-small : (n : ℕ) (k : Kind) (f : ℕ → List ℕ) → Small (recordsTo n k f)

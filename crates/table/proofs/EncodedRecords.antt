@@ -11,7 +11,7 @@ use Rattle.layout.specs.declared.Kind.the-variants.{Network, Processor, Task, C
 use Rattle.layout.specs.declared.Progress.{Progress}
 use Rattle.layout.specs.Format.{row, size, count, start, place, field}
 use Rattle.table.specs.declared.Table.{Table}
-use Rattle.table.specs.Encode.{recordBytes, recordsTo, encode}
+use Rattle.table.specs.Encode.{encodeRecord, recordsTo, encode}
 use Rattle.table.specs.Sound.{Sound}
 use Rattle.table.proofs.RecordFields.{Fit, none, more, Stands, record-length, stands-field}
 
@@ -86,7 +86,7 @@ encode-kind t Message = ap (λ (s : List ℕ). beforeKind t Message ++ s) (sym (
 
 -- record j of n stands behind the j before it
 abbrev Split : Kind → (ℕ → List ℕ) → ℕ → ℕ → Type 0
-Split k f n j = (q : List ℕ) × (recordsTo n k f ≡ recordsTo j k f ++ (recordBytes k (f j) ++ q))
+Split k f n j = (q : List ℕ) × (recordsTo n k f ≡ recordsTo j k f ++ (encodeRecord k (f j) ++ q))
 
 records-split : (k : Kind) (f : ℕ → List ℕ) (n j : ℕ) → j < n → Split k f n j
 unfolding recordsTo
@@ -95,14 +95,14 @@ records-split k f (suc n) j l = go (ℕ-discrete j n) (records-split k f n j)
   where
     go : Dec (j ≡ n) → (j < n → Split k f n j) → Split k f (suc n) j
     go (yes e) ih = ([], rw (e, append-nil))
-    go (no e) ih = let r = ih (omega arith) in (r .0 ++ recordBytes k (f n), ap (λ (s : List ℕ). s ++ recordBytes k (f n)) (r .1) ∙ simp append-assoc)
+    go (no e) ih = let r = ih (omega arith) in (r .0 ++ encodeRecord k (f n), ap (λ (s : List ℕ). s ++ encodeRecord k (f n)) (r .1) ∙ simp append-assoc)
 
 module _ {t : Table} (h : Sound t) where
   records-length : (k : Kind) (n : ℕ) → length (recordsOf t k n) ≡ size k * n
   unfolding recordsTo
   records-length k zero = sym (mul-zero (size k))
   records-length k (suc n) =
-      omega (arith, length-append (recordsOf t k n) (recordBytes k (valuesOf t k n)), records-length k n, record-length k (values-fit h k n), mul-suc (size k) n)
+      omega (arith, length-append (recordsOf t k n) (encodeRecord k (valuesOf t k n)), records-length k n, record-length k (values-fit h k n), mul-suc (size k) n)
 
   before-length : (k : Kind) → length (beforeKind t k) ≡ start (whole t) k
   before-length Network = refl

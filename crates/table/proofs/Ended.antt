@@ -21,13 +21,13 @@ use Rattle.verdict.proofs.Taken.{accepted}
 use Rattle.verdict.proofs.Passed.{neither}
 use Rattle.table.specs.declared.Outcome.the-variants.{Readable, Refused}
 use Rattle.table.specs.declared.Scanned.{Scanned}
-use Rattle.table.specs.Scan.{withRecord, noRecords, refusal, missing, atEnd, after, scanFrom, scanOf}
+use Rattle.table.specs.Scan.{withRecord, noRecords, refusedScan, missing, atEnd, after, scanFrom, scanOf}
 use Rattle.table.specs.Table.{tableOf, readingBy, readOf}
 use Rattle.table.proofs.Fine.{Fine, fine-start, fine-next}
 
 data Ended (s : List ℕ) : Scanned → Type 0 where
   whole : {x : Progress} → Fine s (length s) x → missing x ≡ false → Ended s (record { outcome = Readable; progress = x })
-  refused : {cause : Cause} {at : ℕ} {x : Progress} → Reached s at x → Ended s (refusal cause at)
+  refused : {cause : Cause} {at : ℕ} {x : Progress} → Reached s at x → Ended s (refusedScan cause at)
 
 -- where nothing is missing (01, 11)
 pub present : (x : Progress) → missing x ≡ false → (1 ≤ count x Network) × (1 ≤ count x Processor) × (1 ≤ count x Task)
@@ -48,7 +48,7 @@ module _ {s : List ℕ} {at : ℕ} {x : Progress} (f : Fine s at x) where
       end : at ≡ length s
       end = omega (arith, f .reached .inside)
 
-      go : (b : Bool) → missing x ≡ b → Ended s (cond b (refusal Missing at) (record { outcome = Readable; progress = x }))
+      go : (b : Bool) → missing x ≡ b → Ended s (cond b (refusedScan Missing at) (record { outcome = Readable; progress = x }))
       go true e = refused (f .reached)
       go false e = whole (subst (λ (n : ℕ). Fine s n x) end f) e
 

@@ -1,7 +1,8 @@
 -- An array filled from the left: the loop's invariant and its laws. Assumes nothing.
-use mathlib.Core.Path.{_≡_, sym, ap, _∙_}
+use mathlib.Core.Path.{_≡_, refl, sym, _∙_}
 use mathlib.Core.List.{List}
 use Prim.Native.Nat.{ℕ, _+_, _*_, _≤_, _<_}
+use native.Mathlib.Nat.{mul-add, mul-one, mul-le-mul-left}
 use native.Mathlib.Omega.{arith}
 use borrow.Author.Count.{below-none, below-more}
 use lib.Dec.{ltb}
@@ -11,12 +12,10 @@ use Rattle.finite.specs.Finite.{only}
 use Rattle.layout.specs.declared.Kind.{Kind}
 use Rattle.layout.specs.declared.Kind.the-variants.{Network, Processor, Task, CoResident, Exclusive, Message}
 use Rattle.layout.specs.declared.Progress.{Progress}
-use Rattle.layout.specs.Format.{size, start, count}
+use Rattle.layout.specs.Format.{size, start, count, place}
+use Rattle.layout.proofs.Limits.{size-small, start-small, record-small}
 use Rattle.verdict.specs.Reached.{Reached}
-use Rattle.layout.proofs.Limits.{most-small, size-small}
-use Rattle.table.specs.declared.Width.{Width}
-use Rattle.table.specs.Table.{column, widthOf}
-use Rattle.table.specs.Columns.{Fits, fieldOf}
+use Rattle.table.specs.Table.{column}
 use Rattle.table.proofs.Columns.{column-at, column-length}
 
 -- the first j places of the array are those of the column
@@ -42,15 +41,11 @@ module _ {places n : ℕ} {f : ℕ → ℕ} {j : ℕ} {out : List ℕ} (w : Fill
   fill-end l = ext-getD 0 out (column places n f) (w .long ∙ sym (column-length places n f))
       (λ k m. w .done k (omega (arith, w .long)) ∙ sym (column-at places n f k (omega (arith, w .long))))
 
--- the records of a kind lie within a file that was scanned to its end, and so does each of their fields
-pub fits-of : {s : List ℕ} {x : Progress} → Reached s (length s) x → (k : Kind) {first : ℕ} → first ≡ start x k → (o : ℕ) (w : Width) → o + widthOf w ≤ size k
-    → Fits (length s) first (size k) o w (count x k)
-fits-of {s} {x} r k e o w l = record {
-  few = omega (arith, r .counted .few k, most-small k);
-  short = size-small k;
-  holds = l;
-  rows = omega (arith, within k);
-}
+-- record j of a kind lies within a file that was scanned to its end
+pub record-in : {s : List ℕ} {x : Progress} → Reached s (length s) x → (k : Kind) (j : ℕ) → j < count x k → place x k j + size k ≤ length s
+record-in {s} {x} r k j l =
+    let up : size k * (j + 1) ≤ size k * count x k = mul-le-mul-left (size k) (omega arith) in
+    omega (arith, within k, mul-add (size k) j 1, mul-one (size k))
   where
     within : (i : Kind) → start x i + size i * count x i ≤ length s
     within Network = omega (arith, r .ends)
@@ -60,6 +55,8 @@ fits-of {s} {x} r k e o w l = record {
     within Exclusive = omega (arith, r .ends)
     within Message = omega (arith, r .ends)
 
--- a column read from the same first record
-pub column-from : (s : List ℕ) (p n size o : ℕ) (w : Width) {first first′ : ℕ} → first ≡ first′ → column p n (fieldOf s first size o w) ≡ column p n (fieldOf s first′ size o w)
-column-from s p n size o w e = ap (λ (f : ℕ). column p n (fieldOf s f size o w)) e
+-- and it lies low
+pub record-low : {s : List ℕ} {x : Progress} → Reached s (length s) x → (k : Kind) (j : ℕ) → j < count x k → place x k j + size k ≤ 2732
+record-low {s} {x} r k j l =
+    let m : size k * j ≤ 22 * 64 = record-small k refl (omega (arith, r .counted .few k)) in
+    omega (arith, start-small x (r .counted) k, size-small k)

@@ -13,7 +13,7 @@ use Rattle.multiple.proofs.Laws.{lcmTo-ext}
 use Rattle.layout.specs.declared.Kind.{Kind}
 use Rattle.layout.specs.declared.Kind.the-variants.{Network, Processor, Task, CoResident, Exclusive, Message}
 use Rattle.layout.specs.declared.Progress.{Progress}
-use Rattle.layout.specs.Format.{row, size, count, place, T}
+use Rattle.layout.specs.Format.{row, size, count, place, period}
 use Rattle.verdict.specs.Faults.{hyperperiodWith}
 use Rattle.verdict.specs.Reached.{Reached}
 use Rattle.verdict.proofs.Accepted.{Accepted}
@@ -32,7 +32,7 @@ pub record Fine (s : List ℕ) (at : ℕ) (x : Progress) : Type 0 where
   pub reached : Reached s at x
   pub later : (k : Kind) → x .next < row k .order → count x k ≡ 0
   pub stands : (k : Kind) (j : ℕ) → j < count x k → Stands s x k j
-  pub hyperperiod : x .hyperperiod ≡ lcmTo (count x Task) (λ j. T s (place x Task j))
+  pub hyperperiod : x .hyperperiod ≡ lcmTo (count x Task) (λ j. period s (place x Task j))
 
 pub fine-start : (s : List ℕ) → Fine s 0 noRecords
 unfolding lcmTo
@@ -107,22 +107,22 @@ module _ {s : List ℕ} {at : ℕ} {x : Progress} {k : Kind} (f : Fine s at x) (
       go (other d) = let m : j < count x i = omega (arith, count-y i d) in stays i j (up-to i j m) (f .stands i j m)
 
   -- the tasks taken before, from where they stand now
-  periods : lcmTo (count x Task) (λ j. T s (place y Task j)) ≡ x .hyperperiod
+  periods : lcmTo (count x Task) (λ j. period s (place y Task j)) ≡ x .hyperperiod
   periods =
-      lcmTo-ext (count x Task) (λ j. T s (place y Task j)) (λ j. T s (place x Task j)) (λ j l. ap (T s) (place-y Task (up-to Task j l) j))
+      lcmTo-ext (count x Task) (λ j. period s (place y Task j)) (λ j. period s (place x Task j)) (λ j l. ap (period s) (place-y Task (up-to Task j l) j))
       ∙ sym (f .hyperperiod)
 
-  other-hyperperiod : row Task .order ≢ row k .order → x .hyperperiod ≡ lcmTo (count y Task) (λ j. T s (place y Task j))
-  other-hyperperiod d = sym periods ∙ ap (λ (n : ℕ). lcmTo n (λ j. T s (place y Task j))) (sym (count-y Task d))
+  other-hyperperiod : row Task .order ≢ row k .order → x .hyperperiod ≡ lcmTo (count y Task) (λ j. period s (place y Task j))
+  other-hyperperiod d = sym periods ∙ ap (λ (n : ℕ). lcmTo n (λ j. period s (place y Task j))) (sym (count-y Task d))
 
 hyperperiod-next : {s : List ℕ} {at : ℕ} {x : Progress} (k : Kind) (f : Fine s at x) (a : Accepted s at x k)
-    → hyperperiodWith s at x k ≡ lcmTo (count (y f a) Task) (λ j. T s (place (y f a) Task j))
+    → hyperperiodWith s at x k ≡ lcmTo (count (y f a) Task) (λ j. period s (place (y f a) Task j))
 unfolding lcmTo
 hyperperiod-next Network f a = other-hyperperiod f a (omega arith)
 hyperperiod-next Processor f a = other-hyperperiod f a (omega arith)
 hyperperiod-next {s} {at} {x} Task f a =
-    ap₂ lcm (sym (periods f a)) (ap (T s) (at-place f a))
-    ∙ ap (λ (n : ℕ). lcmTo n (λ j. T s (place (y f a) Task j))) (sym (count-k f a))
+    ap₂ lcm (sym (periods f a)) (ap (period s) (at-place f a))
+    ∙ ap (λ (n : ℕ). lcmTo n (λ j. period s (place (y f a) Task j))) (sym (count-k f a))
 hyperperiod-next CoResident f a = other-hyperperiod f a (omega arith)
 hyperperiod-next Exclusive f a = other-hyperperiod f a (omega arith)
 hyperperiod-next Message f a = other-hyperperiod f a (omega arith)

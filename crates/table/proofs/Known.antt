@@ -8,7 +8,7 @@ use Rattle.mask.specs.Mask as mask
 use Rattle.layout.specs.declared.Kind.{Kind}
 use Rattle.layout.specs.declared.Kind.the-variants.{Processor, Task, Message}
 use Rattle.layout.specs.declared.Progress.{Progress}
-use Rattle.layout.specs.Format.{row, size, field, limit, C, T, D, priority, residence, sender, receiver, amount, count, place}
+use Rattle.layout.specs.Format.{row, size, field, limit, executionTime, period, deadline, priority, residence, sender, receiver, amount, count, place}
 use Rattle.verdict.specs.Faults.{notInFile, badGroup}
 use Rattle.verdict.proofs.Passed as passed
 use Rattle.table.proofs.Progress.{start-agree}
@@ -23,7 +23,7 @@ module _ {s : List ℕ} {x : Progress} where
   limit-known {j} r = passed.limit-range s (place x Processor j) (r .accepted .in-range)
 
   module _ {j : ℕ} (r : Stands s x Task j) where
-    pub task-known : passed.TaskRange (C s (place x Task j)) (D s (place x Task j)) (T s (place x Task j))
+    pub task-known : passed.TaskRange (executionTime s (place x Task j)) (deadline s (place x Task j)) (period s (place x Task j))
     task-known = passed.task-range s (place x Task j) (r .accepted .in-range)
 
     pub residence-known : (0 < residence s (place x Task j)) × (residence s (place x Task j) < 2 ^ count x Processor)
@@ -39,7 +39,7 @@ module _ {s : List ℕ} {x : Progress} where
   pub group-known : (k : Kind) {j : ℕ} → row Task .order < row k .order
       → ((at : ℕ) (y : Progress) → notInFile s at y k ≡ badGroup (count y Task) (field k 0 s at))
       → Stands s x k j
-      → (field k 0 s (place x k j) < 2 ^ count x Task) × (2 ≤ mask.size 32 (field k 0 s (place x k j)))
+      → (field k 0 s (place x k j) < 2 ^ count x Task) × (2 ≤ mask.cardinality 32 (field k 0 s (place x k j)))
   group-known k {j} l group r =
       passed.group-known (count x Task) (field k 0 s (place x k j))
       (ap (λ (n : ℕ). badGroup n (field k 0 s (place x k j))) (sym (r .agree Task l)) ∙ sym (group (place x k j) (r .before)) ∙ r .accepted .in-file)
@@ -52,12 +52,12 @@ module _ {s : List ℕ} {x : Progress} where
     unfolding notInFile
     pair-known = rw (r .agree Task (omega arith)) at (passed.pair-known (count (r .before) Task) (sender s (place x Message j)) (receiver s (place x Message j)) (r .accepted .in-file))
 
-    pub periods-equal : T s (place x Task (sender s (place x Message j))) ≡ T s (place x Task (receiver s (place x Message j)))
+    pub periods-equal : period s (place x Task (sender s (place x Message j))) ≡ period s (place x Task (receiver s (place x Message j)))
     periods-equal =
         let stood = before-place r Task (omega arith) in
-        sym (ap (T s) (stood (sender s (place x Message j))))
+        sym (ap (period s) (stood (sender s (place x Message j))))
         ∙ passed.periods-equal s (place x Message j) (r .before) (r .accepted .periods-equal)
-        ∙ ap (T s) (stood (receiver s (place x Message j)))
+        ∙ ap (period s) (stood (receiver s (place x Message j)))
 
     pub message-new : (i : ℕ) → i < j → sender s (place x Message i) ≡ sender s (place x Message j) → receiver s (place x Message i) ≢ receiver s (place x Message j)
     message-new i l d e =

@@ -15,7 +15,7 @@ use Rattle.multiple.proofs.Laws.{lcm-pos}
 use Rattle.layout.specs.declared.Kind.{Kind}
 use Rattle.layout.specs.declared.Kind.the-variants.{Network, Processor, Task, CoResident, Exclusive, Message}
 use Rattle.layout.specs.declared.Progress.{Progress}
-use Rattle.layout.specs.Format.{row, size, count, extent, start, place, T}
+use Rattle.layout.specs.Format.{row, size, count, extent, start, place, period}
 use Rattle.verdict.specs.Faults.{hyperperiodWith}
 use Rattle.verdict.specs.Reached.{Reached}
 use Rattle.verdict.proofs.Accepted.{Accepted}
@@ -142,7 +142,7 @@ module _ {s : List ℕ} {at : ℕ} {x : Progress} (r : Reached s at x) where
   hyperperiod-bounds Processor a = (r .least, r .most)
   hyperperiod-bounds Task a =
       let t = task-range s at (a .in-range) in
-      (lcm-pos (x .hyperperiod) (T s at) (r .least) (omega arith), hyperperiod-small s at x (a .hyperperiod-small))
+      (lcm-pos (x .hyperperiod) (period s at) (r .least) (omega arith), hyperperiod-small s at x (a .hyperperiod-small))
   hyperperiod-bounds CoResident a = (r .least, r .most)
   hyperperiod-bounds Exclusive a = (r .least, r .most)
   hyperperiod-bounds Message a = (r .least, r .most)

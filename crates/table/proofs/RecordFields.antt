@@ -9,15 +9,15 @@ use Rattle.wire.specs.Wire.{bytes, markAt}
 use Rattle.wire.proofs.Laws.{bytes-length, number-at, mark-stands}
 use Rattle.layout.specs.declared.Kind.{Kind}
 use Rattle.layout.specs.declared.Kind.the-variants.{Network, Processor, Task, CoResident, Exclusive, Message}
-use Rattle.layout.specs.Format.{row, size, total, fieldsFrom, field}
-use Rattle.table.specs.Encode.{fieldBytes, recordBytes}
+use Rattle.layout.specs.Format.{row, size, totalWidth, fieldsFrom, field}
+use Rattle.table.specs.Encode.{fieldBytes, encodeRecord}
 
 -- as many values as widths, each of its width
 pub data Fit : List ℕ → List ℕ → Type 0 where
   none : Fit [] []
   more : {w v : ℕ} {ws vs : List ℕ} → v < 256 ^ w → Fit ws vs → Fit (w ∷ ws) (v ∷ vs)
 
-fields-length : {ws vs : List ℕ} → Fit ws vs → length (fieldBytes ws vs) ≡ total ws
+fields-length : {ws vs : List ℕ} → Fit ws vs → length (fieldBytes ws vs) ≡ totalWidth ws
 unfolding fieldBytes
 fields-length none = refl
 fields-length (more {w} {v} {ws} {vs} h f) = omega (arith, length-append (bytes w v) (fieldBytes ws vs), bytes-length w v, fields-length f)
@@ -42,27 +42,27 @@ mark-two CoResident = (_, _, refl)
 mark-two Exclusive = (_, _, refl)
 mark-two Message = (_, _, refl)
 
-pub record-length : (k : Kind) {vs : List ℕ} → Fit (row k .widths) vs → length (recordBytes k vs) ≡ size k
-unfolding recordBytes
+pub record-length : (k : Kind) {vs : List ℕ} → Fit (row k .widths) vs → length (encodeRecord k vs) ≡ size k
+unfolding encodeRecord
 record-length k {vs} f = rw (mark-two k .2) (omega (arith, fields-length f))
 
 -- the record of a kind with the values vs stands at a place
 pub record Stands (s : List ℕ) (at : ℕ) (k : Kind) (vs : List ℕ) : Type 0 where
   pub before : List ℕ
   pub behind : List ℕ
-  pub splits : s ≡ before ++ (recordBytes k vs ++ behind)
+  pub splits : s ≡ before ++ (encodeRecord k vs ++ behind)
   pub long : length before ≡ at
 
 module _ {s : List ℕ} {at : ℕ} {k : Kind} {vs : List ℕ} (r : Stands s at k vs) where
   pub stands-mark : markAt s at (row k .mark) ≡ true
-  unfolding recordBytes
+  unfolding encodeRecord
   stands-mark = rw (r .splits, ← r .long, mark-two k .2) (mark-stands (r .before) (fieldBytes (row k .widths) vs ++ r .behind) (mark-two k .0) (mark-two k .1))
 
   pub stands-whole : Fit (row k .widths) vs → at + size k ≤ length s
-  stands-whole f = rw (r .splits) (omega (arith, r .long, length-append (r .before) (recordBytes k vs ++ r .behind), length-append (recordBytes k vs) (r .behind), record-length k f))
+  stands-whole f = rw (r .splits) (omega (arith, r .long, length-append (r .before) (encodeRecord k vs ++ r .behind), length-append (encodeRecord k vs) (r .behind), record-length k f))
 
   pub stands-field : Fit (row k .widths) vs → (i : ℕ) → field k i s at ≡ getD vs i 0
-  unfolding recordBytes
+  unfolding encodeRecord
   stands-field f i =
       let m = row k .mark in
       let e : s ≡ r .before ++ m ++ (fieldBytes (row k .widths) vs ++ r .behind) = r .splits ∙ simp append-assoc in

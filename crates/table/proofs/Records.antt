@@ -11,8 +11,8 @@ use Rattle.wire.specs.Wire.{Bytes, markAt}
 use Rattle.wire.proofs.Laws.{bytes-number, mark-found}
 use Rattle.layout.specs.declared.Kind.{Kind}
 use Rattle.layout.specs.declared.Kind.the-variants.{Network, Processor, Task, CoResident, Exclusive, Message}
-use Rattle.layout.specs.Format.{row, total, size, fieldsFrom}
-use Rattle.table.specs.Encode.{fieldBytes, recordBytes, recordsTo}
+use Rattle.layout.specs.Format.{row, totalWidth, size, fieldsFrom}
+use Rattle.table.specs.Encode.{fieldBytes, encodeRecord, recordsTo}
 
 -- two parts of a list, one behind the other; and of a file from a place on
 pub joined : (l : List ℕ) (n m : ℕ) {p q : List ℕ} → p ≡ take n l → q ≡ take m (drop n l) → p ++ q ≡ take (n + m) l
@@ -22,11 +22,11 @@ joined-at : (s : List ℕ) (at n m : ℕ) {p q : List ℕ} → p ≡ take n (dro
 joined-at s at n m d e = joined (drop at s) n m d (e ∙ ap (take m) (sym (drop-drop n at s)))
 
 -- the fields of a record, from an offset on
-pub fields-read : (ws : List ℕ) (o : ℕ) (s : List ℕ) (at : ℕ) → Bytes s → at + o + total ws ≤ length s → fieldBytes ws (fieldsFrom ws o s at) ≡ take (total ws) (drop (at + o) s)
+pub fields-read : (ws : List ℕ) (o : ℕ) (s : List ℕ) (at : ℕ) → Bytes s → at + o + totalWidth ws ≤ length s → fieldBytes ws (fieldsFrom ws o s at) ≡ take (totalWidth ws) (drop (at + o) s)
 unfolding fieldBytes
 fields-read [] o s at b l = refl
 fields-read (w ∷ ws) o s at b l =
-    joined-at s (at + o) w (total ws) (bytes-number s (at + o) w b (omega arith)) (fields-read ws (o + w) s at b (omega arith) ∙ ap (λ (n : ℕ). take (total ws) (drop n s)) (sym (add-assoc at o w)))
+    joined-at s (at + o) w (totalWidth ws) (bytes-number s (at + o) w b (omega arith)) (fields-read ws (o + w) s at b (omega arith) ∙ ap (λ (n : ℕ). take (totalWidth ws) (drop n s)) (sym (add-assoc at o w)))
 
 -- its mark
 mark-read : (k : Kind) (s : List ℕ) (at : ℕ) → markAt s at (row k .mark) ≡ true → at + 2 ≤ length s → take 2 (drop at s) ≡ row k .mark
@@ -39,12 +39,12 @@ mark-read Message s at = mark-found s at _ _
 
 -- the whole record
 pub record-read : (k : Kind) (s : List ℕ) (at : ℕ) → Bytes s → markAt s at (row k .mark) ≡ true → at + size k ≤ length s
-    → recordBytes k (fieldsFrom (row k .widths) 2 s at) ≡ take (size k) (drop at s)
-unfolding recordBytes
-record-read k s at b m l = joined-at s at 2 (total (row k .widths)) (sym (mark-read k s at m (omega arith))) (fields-read (row k .widths) 2 s at b (omega arith))
+    → encodeRecord k (fieldsFrom (row k .widths) 2 s at) ≡ take (size k) (drop at s)
+unfolding encodeRecord
+record-read k s at b m l = joined-at s at 2 (totalWidth (row k .widths)) (sym (mark-read k s at m (omega arith))) (fields-read (row k .widths) 2 s at b (omega arith))
 
 -- n records from a place on
-pub records-read : (n : ℕ) (k : Kind) (f : ℕ → List ℕ) (s : List ℕ) (first : ℕ) → ((j : ℕ) → j < n → recordBytes k (f j) ≡ take (size k) (drop (first + size k * j) s))
+pub records-read : (n : ℕ) (k : Kind) (f : ℕ → List ℕ) (s : List ℕ) (first : ℕ) → ((j : ℕ) → j < n → encodeRecord k (f j) ≡ take (size k) (drop (first + size k * j) s))
     → recordsTo n k f ≡ take (size k * n) (drop first s)
 unfolding recordsTo
 records-read zero k f s first r = rw (mul-zero (size k)) refl

@@ -14,7 +14,7 @@ use Rattle.layout.specs.Format.{size}
 use Rattle.verdict.specs.Faults.{verdict}
 use Rattle.verdict.specs.Reached.{Reached}
 use Rattle.verdict.proofs.Taken.{accepted}
-use Rattle.table.specs.Scan.{noRecords, withRecord, refusal, atEnd, after, scanFrom, scanOf}
+use Rattle.table.specs.Scan.{noRecords, withRecord, refusedScan, atEnd, after, scanFrom, scanOf}
 use Rattle.table.proofs.Progress.{reached-start, reached-next}
 
 -- the scan has come to a place with the records x, and the rest of the file decides
@@ -46,7 +46,7 @@ module _ {s : List ℕ} {at : ℕ} {x : Progress} (w : Scanning s at x) where
         rest = unrolled l ∙ ap (λ (v : Verdict). after v at x (scanFrom (w .left - 1) s)) e;
       }
 
-  pub scan-refused : {c : Cause} → at < length s → verdict s at x ≡ Refused c → scanOf s ≡ refusal c at
+  pub scan-refused : {c : Cause} → at < length s → verdict s at x ≡ Refused c → scanOf s ≡ refusedScan c at
   scan-refused l e = unrolled l ∙ ap (λ (v : Verdict). after v at x (scanFrom (w .left - 1) s)) e
 
   pub scan-end : length s ≤ at → scanOf s ≡ atEnd at x

@@ -12,11 +12,11 @@ use Rattle.wire.proofs.Laws.{number-lt}
 use Rattle.layout.specs.declared.Kind.{Kind}
 use Rattle.layout.specs.declared.Kind.the-variants.{Processor, Task, CoResident, Exclusive, Message}
 use Rattle.layout.specs.declared.Progress.{Progress}
-use Rattle.layout.specs.Format.{row, field, count, place, T, priority, sender, receiver}
+use Rattle.layout.specs.Format.{row, field, count, place, period, priority, sender, receiver}
 use Rattle.verdict.specs.Faults.{notInFile, badGroup}
 use Rattle.table.specs.declared.Outcome.the-variants.{Readable}
 use Rattle.table.specs.Scan.{missing}
-use Rattle.table.specs.Table.{columnOf, groupsOf, tableOf, readOf}
+use Rattle.table.specs.Table.{columnOf, groupColumns, tableOf, readOf}
 use Rattle.table.specs.Sound.{SoundProcessors, SoundTasks, SoundGroups, SoundMessages, Sound}
 use Rattle.table.proofs.Columns.{column-in, column-sound, value}
 use Rattle.table.proofs.Fine.{Fine}
@@ -77,7 +77,7 @@ module _ {s : List ℕ} {x : Progress} (b : Bytes s) (f : Fine s (length s) x) w
   sound-groups : (k : Kind) → row k .most ≡ 16 → row Task .order < row k .order
       → ((at : ℕ) → field k 0 s at < 2 ^ 32)
       → ((at : ℕ) (y : Progress) → notInFile s at y k ≡ badGroup (count y Task) (field k 0 s at))
-      → SoundGroups (count x Task) (groupsOf s x k)
+      → SoundGroups (count x Task) (groupColumns s x k)
   sound-groups k sixteen later small group = record {
     most = few;
     mask = column-sound 16 (count x k) 32 (λ j. field k 0 s (place x k j)) (λ j. small (place x k j));
@@ -123,7 +123,7 @@ module _ {s : List ℕ} {x : Progress} (b : Bytes s) (f : Fine s (length s) x) w
     co = sound-groups CoResident refl (omega arith) (λ at. number-lt s _ 4 b) (λ at y. refl);
     ex = sound-groups Exclusive refl (omega arith) (λ at. number-lt s _ 4 b) (λ at y. refl);
     messages = sound-messages;
-    hyperperiod = f .hyperperiod ∙ lcmTo-ext (count x Task) (λ j. T s (place x Task j)) (λ j. getD (columnOf 24 s x Task 1) j 0) (λ j l. sym (value-at Task 1 j l));
+    hyperperiod = f .hyperperiod ∙ lcmTo-ext (count x Task) (λ j. period s (place x Task j)) (λ j. getD (columnOf 24 s x Task 1) j 0) (λ j l. sym (value-at Task 1 j l));
     hyperperiod-most = f .reached .most;
   }
 

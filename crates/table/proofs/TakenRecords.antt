@@ -15,7 +15,7 @@ use Rattle.multiple.proofs.Laws.{lcmTo-mono}
 use Rattle.layout.specs.declared.Kind.{Kind}
 use Rattle.layout.specs.declared.Kind.the-variants.{Network, Processor, Task, CoResident, Exclusive, Message}
 use Rattle.layout.specs.Format.{row, count, place}
-use Rattle.verdict.specs.Faults.{within, outOfRange, notInFile, badResidence, badGroup, badPair, priorityUsed, periodsDiffer, messageRepeated, hyperperiodTooLarge}
+use Rattle.verdict.specs.Faults.{inRange, outOfRange, notInFile, badResidence, badGroup, badPair, priorityUsed, periodsDiffer, messageRepeated, hyperperiodTooLarge}
 use Rattle.verdict.proofs.Accepted.{Accepted}
 use Rattle.verdict.proofs.Taking.{mark-kind}
 use Rattle.table.specs.declared.Table.{Table}
@@ -27,16 +27,16 @@ use Rattle.table.proofs.Stage.{progressAt, period}
 
 -- ---- the tests, of numbers in their ranges
 
-within-true : (low high v : ℕ) → low ≤ v → v ≤ high → within low high v ≡ true
-within-true low high v a b = rw (le-leb low v a, le-leb v high b)
+in-range-true : (low high v : ℕ) → low ≤ v → v ≤ high → inRange low high v ≡ true
+in-range-true low high v a b = rw (le-leb low v a, le-leb v high b)
 
 residence-good : (m r : ℕ) → 0 < r → r < 2 ^ m → badResidence m r ≡ false
 unfolding badResidence
 residence-good m r a b = rw (ne-eqb r 0 (λ e. omega arith), lt-ltb r (2 ^ m) b)
 
-group-good : (n g : ℕ) → g < 2 ^ n → 2 ≤ mask.size 32 g → badGroup n g ≡ false
+group-good : (n g : ℕ) → g < 2 ^ n → 2 ≤ mask.cardinality 32 g → badGroup n g ≡ false
 unfolding badGroup
-group-good n g a b = rw (lt-ltb g (2 ^ n) a, le-leb 2 (mask.size 32 g) b)
+group-good n g a b = rw (lt-ltb g (2 ^ n) a, le-leb 2 (mask.cardinality 32 g) b)
 
 pair-good : (n a b : ℕ) → a < n → b < n → a ≢ b → badPair n a b ≡ false
 unfolding badPair
@@ -123,7 +123,7 @@ module _ {t : Table} (h : Sound t) where
   contents Network j n l = (l, refl, refl, refl, refl, refl, refl)
   contents Processor j n l =
       let p = h .processors in
-      (omega (arith, p .most), rw (field-at h Processor j l 1, within-true 1 1000 _ (p .least-limit j l) (p .most-limit j l)), refl, refl, refl, refl, refl)
+      (omega (arith, p .most), rw (field-at h Processor j l 1, in-range-true 1 1000 _ (p .least-limit j l) (p .most-limit j l)), refl, refl, refl, refl, refl)
   contents Task j n l =
       let a = h .tasks in
       (omega (arith, a .most), task-range j l, rw (field-at h Task j l 5) (residence-good _ _ (a .resides j l) (a .resides-below j l)), priority-new j n l, refl, refl, multiple-small j n l)
@@ -132,7 +132,7 @@ module _ {t : Table} (h : Sound t) where
   contents Message j n l =
       let m = h .messages in (
         omega (arith, m .most),
-        rw (field-at h Message j l 2, within-true 1 1000000 _ (m .least-amount j l) (m .most-amount j l)),
+        rw (field-at h Message j l 2, in-range-true 1 1000000 _ (m .least-amount j l) (m .most-amount j l)),
         rw (field-at h Message j l 0, field-at h Message j l 1) (pair-good _ _ _ (m .from-task j l) (m .to-task j l) (m .apart j l)),
         refl,
         periods-equal j n l,

@@ -16,20 +16,20 @@ fieldBytes (w ∷ ws) [] = []
 fieldBytes (w ∷ ws) (v ∷ vs) = bytes w v ++ fieldBytes ws vs
 
 -- a record of a kind
-unfoldable pub recordBytes : Kind → List ℕ → List ℕ
-recordBytes k vs = row k .mark ++ fieldBytes (row k .widths) vs
+unfoldable pub encodeRecord : Kind → List ℕ → List ℕ
+encodeRecord k vs = row k .mark ++ fieldBytes (row k .widths) vs
 
 -- the records of f 0, .., f (n - 1), one after the other
 unfoldable pub recordsTo : ℕ → Kind → (ℕ → List ℕ) → List ℕ
 recordsTo zero k f = []
-recordsTo (suc n) k f = recordsTo n k f ++ recordBytes k (f n)
+recordsTo (suc n) k f = recordsTo n k f ++ encodeRecord k (f n)
 
 abbrev pub groupRecords : Kind → Groups → List ℕ
 groupRecords k g = recordsTo (g .count) k (λ j. getD (g .mask) j 0 ∷ [])
 
 unfoldable pub encode : Table → List ℕ
 encode t =
-    recordBytes Network (t .capacity ∷ [])
+    encodeRecord Network (t .capacity ∷ [])
     ++ recordsTo (t .processors .count) Processor (λ j. getD (t .processors .memory) j 0 ∷ getD (t .processors .limit) j 0 ∷ [])
     ++ recordsTo (t .tasks .count) Task (λ j. getD (t .tasks .c) j 0 ∷ getD (t .tasks .t) j 0 ∷ getD (t .tasks .d) j 0 ∷ getD (t .tasks .memory) j 0 ∷ getD (t .tasks .priority) j 0 ∷ getD (t .tasks .residence) j 0 ∷ [])
     ++ groupRecords CoResident (t .co)

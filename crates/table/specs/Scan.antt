@@ -24,19 +24,19 @@ noRecords = record { counts = replicate 6 0; next = 0; hyperperiod = 1 }
 abbrev pub withRecord : Progress → Kind → ℕ → Progress
 withRecord x k h = record { counts = set (x .counts) (row k .order) (count x k + 1); next = row k .next; hyperperiod = h }
 
-abbrev pub refusal : Cause → ℕ → Scanned
-refusal cause at = record { outcome = Refused cause at; progress = noRecords }
+abbrev pub refusedScan : Cause → ℕ → Scanned
+refusedScan cause at = record { outcome = Refused cause at; progress = noRecords }
 
 -- 11: at the end no NT, PR or TK; the place is the length
 unfoldable pub missing : Progress → Bool
 missing x = eqb (count x Network) 0 || eqb (count x Processor) 0 || eqb (count x Task) 0
 
 unfoldable pub atEnd : ℕ → Progress → Scanned
-atEnd at x = cond (missing x) (refusal Missing at) (record { outcome = Readable; progress = x })
+atEnd at x = cond (missing x) (refusedScan Missing at) (record { outcome = Readable; progress = x })
 
 -- by the verdict on the record at a place: the refusal, or the rest of the file behind the record
 abbrev pub after : Verdict → ℕ → Progress → (ℕ → Progress → Scanned) → Scanned
-after (verdicts.Refused cause) at x rest = refusal cause at
+after (verdicts.Refused cause) at x rest = refusedScan cause at
 after (verdicts.Taken k h) at x rest = rest (at + size k) (withRecord x k h)
 
 -- at most as many records as the first number says; a file has fewer than it has bytes

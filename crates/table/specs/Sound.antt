@@ -4,7 +4,7 @@ use mathlib.Core.Logic.{_≢_}
 use mathlib.Core.List.{List}
 use Prim.Native.Nat.{ℕ, _^_, _≤_, _<_}
 use lib.ListN.{getD, length}
-use Rattle.mask.specs.Mask.{size}
+use Rattle.mask.specs.Mask.{cardinality}
 use Rattle.multiple.specs.Multiple.{lcmTo}
 use Rattle.table.specs.declared.Table.{Table}
 use Rattle.table.specs.declared.Processors.{Processors}
@@ -49,7 +49,7 @@ pub record SoundGroups (n : ℕ) (g : Groups) : Type 0 where
   pub most : g .count ≤ 16
   pub mask : Column 16 (g .count) 32 (g .mask)
   pub below : (j : ℕ) → j < g .count → getD (g .mask) j 0 < 2 ^ n
-  pub two : (j : ℕ) → j < g .count → 2 ≤ size 32 (getD (g .mask) j 0)
+  pub two : (j : ℕ) → j < g .count → 2 ≤ cardinality 32 (getD (g .mask) j 0)
 
 -- messages between tasks of equal periods
 pub record SoundMessages (a : Tasks) (m : Messages) : Type 0 where

@@ -34,11 +34,11 @@ widthOf Four = 4
 abbrev pub columnOf : ℕ → List ℕ → Progress → Kind → ℕ → List ℕ
 columnOf places s x k i = column places (count x k) (λ j. field k i s (place x k j))
 
-abbrev pub processorsOf : List ℕ → Progress → Processors
-processorsOf s x = record { count = count x Processor; memory = columnOf 8 s x Processor 0; limit = columnOf 8 s x Processor 1 }
+abbrev pub processorColumns : List ℕ → Progress → Processors
+processorColumns s x = record { count = count x Processor; memory = columnOf 8 s x Processor 0; limit = columnOf 8 s x Processor 1 }
 
-abbrev pub tasksOf : List ℕ → Progress → Tasks
-tasksOf s x = record {
+abbrev pub taskColumns : List ℕ → Progress → Tasks
+taskColumns s x = record {
   count = count x Task;
   c = columnOf 24 s x Task 0;
   t = columnOf 24 s x Task 1;
@@ -48,11 +48,11 @@ tasksOf s x = record {
   residence = columnOf 24 s x Task 5;
 }
 
-abbrev pub groupsOf : List ℕ → Progress → Kind → Groups
-groupsOf s x k = record { count = count x k; mask = columnOf 16 s x k 0 }
+abbrev pub groupColumns : List ℕ → Progress → Kind → Groups
+groupColumns s x k = record { count = count x k; mask = columnOf 16 s x k 0 }
 
-abbrev pub messagesOf : List ℕ → Progress → Messages
-messagesOf s x = record {
+abbrev pub messageColumns : List ℕ → Progress → Messages
+messageColumns s x = record {
   count = count x Message;
   sender = columnOf 64 s x Message 0;
   receiver = columnOf 64 s x Message 1;
@@ -63,11 +63,11 @@ messagesOf s x = record {
 unfoldable pub tableOf : List ℕ → Progress → Table
 tableOf s x = record {
   capacity = field Network 0 s 0;
-  processors = processorsOf s x;
-  tasks = tasksOf s x;
-  co = groupsOf s x CoResident;
-  ex = groupsOf s x Exclusive;
-  messages = messagesOf s x;
+  processors = processorColumns s x;
+  tasks = taskColumns s x;
+  co = groupColumns s x CoResident;
+  ex = groupColumns s x Exclusive;
+  messages = messageColumns s x;
   hyperperiod = x .hyperperiod;
 }
 

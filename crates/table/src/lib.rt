@@ -7,9 +7,10 @@ ghost use Rattle.finite.specs.Finite.{only};
 ghost use Rattle.wire.specs.Wire.{number};
 ghost use Rattle.layout.specs.Format.{row, count, Counted};
 ghost use Rattle.verdict.specs.Reached.{Reached};
-ghost use Rattle.table.specs.Scan.{noRecords, withRecord, refusal, atEnd, scanOf};
-ghost use Rattle.table.specs.Table.{column, widthOf, processorsOf, tasksOf, messagesOf, tableOf, emptyTable, readOf};
-ghost use Rattle.table.specs.Columns.{Fits, fieldOf, groupsAt};
+ghost use Rattle.table.specs.Scan.{noRecords, withRecord, refusedScan, atEnd, scanOf};
+ghost use Rattle.table.specs.Table.{column, widthOf, processorColumns, taskColumns, messageColumns, tableOf, emptyTable, readOf};
+ghost use Rattle.table.specs.Columns.{FieldIn, fieldAt, groupMasks};
+ghost use Rattle.table.specs.declared.Width.the-variants as Width;
 use layout::Kind;
 use layout::Progress;
 use verdict::Cause;
@@ -104,7 +105,7 @@ fn with_record(x: Progress, kind: Kind, hyperperiod: u64) -> Progress
 }
 
 fn refused(cause: Cause, at: usize) -> Scanned
-    ensures { λ r. ⌜ r ≡ refusal cause at ⌝ }
+    ensures { λ r. ⌜ r ≡ refusedScan cause at ⌝ }
 {
     Scanned {
         outcome: Outcome::Refused(cause, at),
@@ -164,55 +165,40 @@ fn number_at(file: &[u8], at: usize, width: Width) -> u32
     }
 }
 
-// The field of record j, 0 where there are no more than j records.
-fn entry(
-    file: &[u8],
-    first: usize,
-    size: usize,
-    offset: usize,
-    width: Width,
-    n: usize,
-    j: usize,
-) -> u32
-    requires { ⌜ Fits (length (now file)) first size offset width n ⌝ }
-    ensures { λ r. ⌜ r ≡ only (ltb j n) (fieldOf (now (file .entry)) first size offset width j) ⌝ }
+// A field of record j of a kind, 0 where there are no more than j records.
+fn entry(file: &[u8], x: Progress, kind: Kind, offset: usize, width: Width, j: usize) -> u32
+    requires { ⌜ FieldIn (now file) x kind offset width ⌝ }
+    ensures { λ r. ⌜ r ≡ only (ltb j (count x kind)) (fieldAt (now (file .entry)) x kind offset width j) ⌝ }
 {
-    if n <= j {
+    let shape = layout::shape_of(kind);
+    let order = shape.order;
+    if x.counts[order] <= j {
         return 0;
     }
-    number_at(file, first + size * j + offset, width)
+    number_at(file, layout::place_of(x, kind, j) + offset, width)
 }
 
-// A field of n records into an array, zeros behind them. The records stand from `first` on.
-fn fill(
-    file: &[u8],
-    first: usize,
-    size: usize,
-    offset: usize,
-    width: Width,
-    n: usize,
-    out: &mut [u32],
-)
-    requires { ⌜ Fits (length (now file)) first size offset width n ⌝ }
-    ensures { λ _. ⌜ now (out .exit) ≡ column (length (now (out .entry))) n (fieldOf (now (file .entry)) first size offset width) ⌝ }
+// A field of the records of a kind into an array, zeros behind them.
+fn fill(file: &[u8], x: Progress, kind: Kind, offset: usize, width: Width, out: &mut [u32])
+    requires { ⌜ FieldIn (now file) x kind offset width ⌝ }
+    ensures { λ _. ⌜ now (out .exit) ≡ column (length (now (out .entry))) (count x kind) (fieldAt (now (file .entry)) x kind offset width) ⌝ }
 {
     let mut j: usize = 0;
     while j < out.len() {
-        out[j] = entry(file, first, size, offset, width, n, j);
+        out[j] = entry(file, x, kind, offset, width, j);
         j += 1;
     }
 }
 
 fn processors_of(file: &[u8], x: Progress) -> Processors
     requires { ⌜ Reached (now file) (length (now file)) x ⌝ }
-    ensures { λ r. ⌜ r ≡ processorsOf (now (file .entry)) x ⌝ }
+    ensures { λ r. ⌜ r ≡ processorColumns (now (file .entry)) x ⌝ }
 {
-    let first = layout::first_of(x, Kind::Processor);
     let n = x.counts[1];
     let mut memory = [0u32; 8];
     let mut limit = [0u32; 8];
-    fill(file, first, 8, 2, Width::Four, n, &mut memory);
-    fill(file, first, 8, 6, Width::Two, n, &mut limit);
+    fill(file, x, Kind::Processor, 2, Width::Four, &mut memory);
+    fill(file, x, Kind::Processor, 6, Width::Two, &mut limit);
     Processors {
         count: n,
         memory,
@@ -222,9 +208,8 @@ fn processors_of(file: &[u8], x: Progress) -> Processors
 
 fn tasks_of(file: &[u8], x: Progress) -> Tasks
     requires { ⌜ Reached (now file) (length (now file)) x ⌝ }
-    ensures { λ r. ⌜ r ≡ tasksOf (now (file .entry)) x ⌝ }
+    ensures { λ r. ⌜ r ≡ taskColumns (now (file .entry)) x ⌝ }
 {
-    let first = layout::first_of(x, Kind::Task);
     let n = x.counts[2];
     let mut c = [0u32; 24];
     let mut t = [0u32; 24];
@@ -232,12 +217,12 @@ fn tasks_of(file: &[u8], x: Progress) -> Tasks
     let mut memory = [0u32; 24];
     let mut priority = [0u32; 24];
     let mut residence = [0u32; 24];
-    fill(file, first, 22, 2, Width::Four, n, &mut c);
-    fill(file, first, 22, 6, Width::Four, n, &mut t);
-    fill(file, first, 22, 10, Width::Four, n, &mut d);
-    fill(file, first, 22, 14, Width::Four, n, &mut memory);
-    fill(file, first, 22, 18, Width::Two, n, &mut priority);
-    fill(file, first, 22, 20, Width::Two, n, &mut residence);
+    fill(file, x, Kind::Task, 2, Width::Four, &mut c);
+    fill(file, x, Kind::Task, 6, Width::Four, &mut t);
+    fill(file, x, Kind::Task, 10, Width::Four, &mut d);
+    fill(file, x, Kind::Task, 14, Width::Four, &mut memory);
+    fill(file, x, Kind::Task, 18, Width::Two, &mut priority);
+    fill(file, x, Kind::Task, 20, Width::Two, &mut residence);
     Tasks {
         count: n,
         c,
@@ -249,28 +234,30 @@ fn tasks_of(file: &[u8], x: Progress) -> Tasks
     }
 }
 
-// The n groups from `first` on.
-fn groups_at(file: &[u8], first: usize, n: usize) -> Groups
-    requires { ⌜ (n ≤ 16) × (first + 6 * n ≤ length (now file)) ⌝ }
-    ensures { λ r. ⌜ r ≡ groupsAt (now (file .entry)) first n ⌝ }
+// The groups of one of the two kinds.
+fn groups_of(file: &[u8], x: Progress, kind: Kind) -> Groups
+    requires { ⌜ FieldIn (now file) x kind 2 Width.Four ⌝ }
+    ensures { λ r. ⌜ r ≡ groupMasks (now (file .entry)) x kind ⌝ }
 {
+    let shape = layout::shape_of(kind);
+    let order = shape.order;
+    let n = x.counts[order];
     let mut mask = [0u32; 16];
-    fill(file, first, 6, 2, Width::Four, n, &mut mask);
+    fill(file, x, kind, 2, Width::Four, &mut mask);
     Groups { count: n, mask }
 }
 
 fn messages_of(file: &[u8], x: Progress) -> Messages
     requires { ⌜ Reached (now file) (length (now file)) x ⌝ }
-    ensures { λ r. ⌜ r ≡ messagesOf (now (file .entry)) x ⌝ }
+    ensures { λ r. ⌜ r ≡ messageColumns (now (file .entry)) x ⌝ }
 {
-    let first = layout::first_of(x, Kind::Message);
     let n = x.counts[5];
     let mut sender = [0u32; 64];
     let mut receiver = [0u32; 64];
     let mut amount = [0u32; 64];
-    fill(file, first, 8, 2, Width::One, n, &mut sender);
-    fill(file, first, 8, 3, Width::One, n, &mut receiver);
-    fill(file, first, 8, 4, Width::Four, n, &mut amount);
+    fill(file, x, Kind::Message, 2, Width::One, &mut sender);
+    fill(file, x, Kind::Message, 3, Width::One, &mut receiver);
+    fill(file, x, Kind::Message, 4, Width::Four, &mut amount);
     Messages {
         count: n,
         sender,
@@ -286,8 +273,8 @@ fn table_of(file: &[u8], x: Progress) -> Table
     let capacity = wire::word_at(file, 2);
     let processors = processors_of(file, x);
     let tasks = tasks_of(file, x);
-    let co = groups_at(file, layout::first_of(x, Kind::CoResident), x.counts[3]);
-    let ex = groups_at(file, layout::first_of(x, Kind::Exclusive), x.counts[4]);
+    let co = groups_of(file, x, Kind::CoResident);
+    let ex = groups_of(file, x, Kind::Exclusive);
     let messages = messages_of(file, x);
     Table {
         capacity,

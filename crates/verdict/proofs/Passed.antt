@@ -13,9 +13,9 @@ use Rattle.mask.specs.Mask as mask
 use Rattle.multiple.specs.Multiple.{lcm}
 use Rattle.layout.specs.declared.Kind.the-variants.{Processor, Task, Message}
 use Rattle.layout.specs.declared.Progress.{Progress}
-use Rattle.layout.specs.Format.{limit, C, T, D, priority, sender, receiver, amount, count, place}
+use Rattle.layout.specs.Format.{limit, executionTime, period, deadline, priority, sender, receiver, amount, count, place}
 use Rattle.verdict.specs.Faults.{
-  within,
+  inRange,
   outOfRange,
   badResidence,
   badGroup,
@@ -45,18 +45,18 @@ none-below n p e j l = go (p j) refl
 
 -- ---- ranges (01: 1 to 1000; 1 ≤ C ≤ D ≤ T ≤ 1,000,000; 1 to 1,000,000)
 
-within-range : (low high v : ℕ) → not (within low high v) ≡ false → (low ≤ v) × (v ≤ high)
-within-range low high v e =
-    let t = both (leb low v) (leb v high) (not-false (within low high v) e) in
+in-range : (low high v : ℕ) → not (inRange low high v) ≡ false → (low ≤ v) × (v ≤ high)
+in-range low high v e =
+    let t = both (leb low v) (leb v high) (not-false (inRange low high v) e) in
     (leb-true low v (t .0), leb-true v high (t .1))
 
 pub limit-range : (s : List ℕ) (at : ℕ) → outOfRange s at Processor ≡ false → (1 ≤ limit s at) × (limit s at ≤ 1000)
 unfolding outOfRange
-limit-range s at = within-range 1 1000 (limit s at)
+limit-range s at = in-range 1 1000 (limit s at)
 
 pub amount-range : (s : List ℕ) (at : ℕ) → outOfRange s at Message ≡ false → (1 ≤ amount s at) × (amount s at ≤ 1000000)
 unfolding outOfRange
-amount-range s at = within-range 1 1000000 (amount s at)
+amount-range s at = in-range 1 1000000 (amount s at)
 
 pub record TaskRange (c d t : ℕ) : Type 0 where
   pub works : 1 ≤ c
@@ -64,12 +64,12 @@ pub record TaskRange (c d t : ℕ) : Type 0 where
   pub d-t : d ≤ t
   pub ticks : t ≤ 1000000
 
-pub task-range : (s : List ℕ) (at : ℕ) → outOfRange s at Task ≡ false → TaskRange (C s at) (D s at) (T s at)
+pub task-range : (s : List ℕ) (at : ℕ) → outOfRange s at Task ≡ false → TaskRange (executionTime s at) (deadline s at) (period s at)
 unfolding outOfRange
 task-range s at e =
-    let c = C s at in
-    let d = D s at in
-    let t = T s at in
+    let c = executionTime s at in
+    let d = deadline s at in
+    let t = period s at in
     let cdt = both (leb 1 c && leb c d && leb d t) (leb t 1000000) (not-false _ e) in
     let cd = both (leb 1 c && leb c d) (leb d t) (cdt .0) in
     let one = both (leb 1 c) (leb c d) (cd .0) in
@@ -84,11 +84,11 @@ residence-known m r e =
     let some : r ≢ 0 = eqb-false r 0 (t .0) in
     (omega arith, ltb-true r (2 ^ m) (not-false (mask.below m r) (t .1)))
 
-pub group-known : (n g : ℕ) → badGroup n g ≡ false → (g < 2 ^ n) × (2 ≤ mask.size 32 g)
+pub group-known : (n g : ℕ) → badGroup n g ≡ false → (g < 2 ^ n) × (2 ≤ mask.cardinality 32 g)
 unfolding badGroup
 group-known n g e =
-    let t = neither (not (mask.below n g)) (not (leb 2 (mask.size 32 g))) e in
-    (ltb-true g (2 ^ n) (not-false (mask.below n g) (t .0)), leb-true 2 (mask.size 32 g) (not-false (leb 2 (mask.size 32 g)) (t .1)))
+    let t = neither (not (mask.below n g)) (not (leb 2 (mask.cardinality 32 g))) e in
+    (ltb-true g (2 ^ n) (not-false (mask.below n g) (t .0)), leb-true 2 (mask.cardinality 32 g) (not-false (leb 2 (mask.cardinality 32 g)) (t .1)))
 
 pub pair-known : (n a b : ℕ) → badPair n a b ≡ false → (a < n) × (b < n) × (a ≢ b)
 unfolding badPair
@@ -104,7 +104,7 @@ module _ (s : List ℕ) (at : ℕ) (x : Progress) where
   unfolding priorityUsed
   priority-new e j l = eqb-false _ _ (none-below (count x Task) (λ i. eqb (priority s (place x Task i)) (priority s at)) e j l)
 
-  pub periods-equal : periodsDiffer s at x Message ≡ false → T s (place x Task (sender s at)) ≡ T s (place x Task (receiver s at))
+  pub periods-equal : periodsDiffer s at x Message ≡ false → period s (place x Task (sender s at)) ≡ period s (place x Task (receiver s at))
   unfolding periodsDiffer
   periods-equal e = eqb-true _ _ (not-false _ e)
 
@@ -115,6 +115,6 @@ module _ (s : List ℕ) (at : ℕ) (x : Progress) where
       eqb-false (receiver s (place x Message j)) (receiver s at)
       (rw (eq-eqb (sender s (place x Message j)) (sender s at) p) at (none-below (count x Message) (λ i. eqb (sender s (place x Message i)) (sender s at) && eqb (receiver s (place x Message i)) (receiver s at)) e j l))
 
-  pub hyperperiod-small : hyperperiodTooLarge s at x Task ≡ false → lcm (x .hyperperiod) (T s at) ≤ 1000000000
+  pub hyperperiod-small : hyperperiodTooLarge s at x Task ≡ false → lcm (x .hyperperiod) (period s at) ≤ 1000000000
   unfolding hyperperiodTooLarge
   hyperperiod-small e = ltb-false 1000000000 _ e

@@ -9,17 +9,17 @@ use borrow.Author.Tests.{eq-eqb, ne-eqb}
 use lib.Dec.{eqb, leb}
 use Rattle.finite.specs.Finite.{someBelow}
 use Rattle.finite.proofs.Some.{some-ext}
-use Rattle.mask.specs.Mask.{below, size}
+use Rattle.mask.specs.Mask.{below, cardinality}
 use Rattle.wire.specs.Wire.{number, Bytes}
 use Rattle.wire.proofs.Laws.{number-add, number-lt}
 use Rattle.layout.specs.declared.Kind.the-variants.{Task, Message}
 use Rattle.layout.specs.declared.Progress.{Progress}
-use Rattle.layout.specs.Format.{T, sender, receiver, count, start}
+use Rattle.layout.specs.Format.{period, sender, receiver, count, start}
 use Rattle.verdict.specs.Faults.{badGroup, priorityUsed, periodsDiffer, messageRepeated}
 
-pub group-by : (n g : ℕ) {b : Bool} → b ≡ (below n g && leb 2 (size 32 g)) → badGroup n g ≡ not b
+pub group-by : (n g : ℕ) {b : Bool} → b ≡ (below n g && leb 2 (cardinality 32 g)) → badGroup n g ≡ not b
 unfolding badGroup
-group-by n g e = rw e (go (below n g) (leb 2 (size 32 g)))
+group-by n g e = rw e (go (below n g) (leb 2 (cardinality 32 g)))
   where
     go : (a b : Bool) → (not a || not b) ≡ not (a && b)
     go true b = refl
@@ -32,7 +32,7 @@ module _ (s : List ℕ) (at : ℕ) (x : Progress) {first : ℕ} where
   priority-by e h = rw e at (sym h)
 
   pub periods-by : {from to p q : ℕ} → first ≡ start x Task → from ≡ sender s at → to ≡ receiver s at
-      → p ≡ T s (first + 22 * from) → q ≡ T s (first + 22 * to) → periodsDiffer s at x Message ≡ not (eqb p q)
+      → p ≡ period s (first + 22 * from) → q ≡ period s (first + 22 * to) → periodsDiffer s at x Message ≡ not (eqb p q)
   unfolding periodsDiffer
   periods-by e f g h i = rw (h, i, e, f, g)
 

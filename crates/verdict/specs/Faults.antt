@@ -16,7 +16,7 @@ use Rattle.verdict.specs.declared.Cause.the-variants.{Cut, UnknownMark, 
 use Rattle.verdict.specs.declared.Verdict.{Verdict}
 use Rattle.verdict.specs.declared.Verdict.the-variants.{Taken, Refused}
 use Rattle.layout.specs.declared.Progress.{Progress}
-use Rattle.layout.specs.Format.{row, size, field, kindAt, limit, C, T, D, priority, residence, sender, receiver, amount, count, place}
+use Rattle.layout.specs.Format.{row, size, field, kindAt, limit, executionTime, period, deadline, priority, residence, sender, receiver, amount, count, place}
 
 -- the record is of the kind that a test concerns
 abbrev pub is : Kind → Kind → Bool
@@ -42,23 +42,23 @@ unfoldable pub tooMany : Progress → Kind → Bool
 tooMany x k = leb (row k .most) (count x k)
 
 -- 5: a number outside its range
-abbrev pub within : ℕ → ℕ → ℕ → Bool
-within low high v = leb low v && leb v high
+abbrev pub inRange : ℕ → ℕ → ℕ → Bool
+inRange low high v = leb low v && leb v high
 
 unfoldable pub outOfRange : List ℕ → ℕ → Kind → Bool
 outOfRange s at Network = false
-outOfRange s at Processor = not (within 1 1000 (limit s at))
-outOfRange s at Task = not (leb 1 (C s at) && leb (C s at) (D s at) && leb (D s at) (T s at) && leb (T s at) 1000000)
+outOfRange s at Processor = not (inRange 1 1000 (limit s at))
+outOfRange s at Task = not (leb 1 (executionTime s at) && leb (executionTime s at) (deadline s at) && leb (deadline s at) (period s at) && leb (period s at) 1000000)
 outOfRange s at CoResident = false
 outOfRange s at Exclusive = false
-outOfRange s at Message = not (within 1 1000000 (amount s at))
+outOfRange s at Message = not (inRange 1 1000000 (amount s at))
 
 -- 6: a task or processor not in the file, an empty residence, a group below two, sender equal to receiver
 unfoldable pub badResidence : ℕ → ℕ → Bool
 badResidence processors r = eqb r 0 || not (mask.below processors r)
 
 unfoldable pub badGroup : ℕ → ℕ → Bool
-badGroup tasks g = not (mask.below tasks g) || not (leb 2 (mask.size 32 g))
+badGroup tasks g = not (mask.below tasks g) || not (leb 2 (mask.cardinality 32 g))
 
 unfoldable pub badPair : ℕ → ℕ → ℕ → Bool
 badPair tasks a b = leb tasks a || leb tasks b || eqb a b
@@ -77,7 +77,7 @@ priorityUsed s at x k = is k Task && someBelow (count x Task) (λ j. eqb (priori
 
 -- 8: sender and receiver differ in period
 unfoldable pub periodsDiffer : List ℕ → ℕ → Progress → Kind → Bool
-periodsDiffer s at x k = is k Message && not (eqb (T s (place x Task (sender s at))) (T s (place x Task (receiver s at))))
+periodsDiffer s at x k = is k Message && not (eqb (period s (place x Task (sender s at))) (period s (place x Task (receiver s at))))
 
 -- 9: sender and receiver of an earlier message
 unfoldable pub messageRepeated : List ℕ → ℕ → Progress → Kind → Bool
@@ -86,7 +86,7 @@ messageRepeated s at x k =
 
 -- 10: the least common multiple of the periods, this one among them, passes its limit
 abbrev pub hyperperiodWith : List ℕ → ℕ → Progress → Kind → ℕ
-hyperperiodWith s at x k = cond (is k Task) (lcm (x .hyperperiod) (T s at)) (x .hyperperiod)
+hyperperiodWith s at x k = cond (is k Task) (lcm (x .hyperperiod) (period s at)) (x .hyperperiod)
 
 unfoldable pub hyperperiodTooLarge : List ℕ → ℕ → Progress → Kind → Bool
 hyperperiodTooLarge s at x k = is k Task && ltb 1000000000 (hyperperiodWith s at x k)

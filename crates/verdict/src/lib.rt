@@ -5,8 +5,8 @@ ghost use lib.Dec.{eqb};
 ghost use lib.ListN.{length};
 ghost use Rattle.finite.specs.Finite.{someBelow};
 ghost use Rattle.wire.specs.Wire.{number};
-ghost use Rattle.layout.specs.Format.{size, T};
-ghost use Rattle.verdict.specs.Faults.{within, outOfRange, badResidence, badPair, contentVerdict, recordVerdict, verdict};
+ghost use Rattle.layout.specs.Format.{size, period};
+ghost use Rattle.verdict.specs.Faults.{inRange, outOfRange, badResidence, badPair, contentVerdict, recordVerdict, verdict};
 ghost use Rattle.verdict.specs.Reached.{Standing, Reached, groupVerdict, pairVerdict};
 use layout::Kind;
 use layout::Mark;
@@ -37,8 +37,8 @@ pub enum Verdict {
     Refused(Cause),
 }
 
-fn is_within(low: u32, high: u32, v: u32) -> bool
-    ensures { λ r. ⌜ r ≡ within low high v ⌝ }
+fn is_in_range(low: u32, high: u32, v: u32) -> bool
+    ensures { λ r. ⌜ r ≡ inRange low high v ⌝ }
 {
     if v < low {
         return false;
@@ -113,7 +113,7 @@ fn repeated(file: &[u8], at: usize, first: usize, size: usize, n: usize, offset:
 // The period of task `j`.
 fn period_of(file: &[u8], first: usize, j: u32) -> u32
     requires { ⌜ (j < 24) × (first + 22 * j + 22 ≤ length (now file)) ⌝ }
-    ensures { λ r. ⌜ r ≡ T (now (file .entry)) (first + 22 * j) ⌝ }
+    ensures { λ r. ⌜ r ≡ period (now (file .entry)) (first + 22 * j) ⌝ }
 {
     wire::word_at(file, first + 22 * (j as usize) + 6)
 }
@@ -122,7 +122,7 @@ fn processor_verdict(file: &[u8], at: usize, x: Progress) -> Verdict
     requires { ⌜ at + 8 ≤ length (now file) ⌝ }
     ensures { λ r. ⌜ r ≡ contentVerdict (now (file .entry)) at x Kind.Processor ⌝ }
 {
-    if is_within(1, 1000, wire::half_at(file, at + 6)) {
+    if is_in_range(1, 1000, wire::half_at(file, at + 6)) {
         Verdict::Taken(Kind::Processor, x.hyperperiod)
     } else {
         Verdict::Refused(Cause::OutOfRange)
@@ -166,7 +166,7 @@ fn message_verdict(file: &[u8], at: usize, x: Progress) -> Verdict
     requires { ⌜ Reached (now file) at x × (at + 8 ≤ length (now file)) ⌝ }
     ensures { λ r. ⌜ r ≡ contentVerdict (now (file .entry)) at x Kind.Message ⌝ }
 {
-    if is_within(1, 1000000, wire::word_at(file, at + 4)) {
+    if is_in_range(1, 1000000, wire::word_at(file, at + 4)) {
         return pair_verdict(file, at, x);
     }
     Verdict::Refused(Cause::OutOfRange)

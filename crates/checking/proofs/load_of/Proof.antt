@@ -9,7 +9,7 @@ use lib.ListN.{getD}
 use Rattle.mask.specs.Mask.{has}
 use Rattle.load.specs.declared.Load.{Load}
 use Rattle.rules.specs.Sets.{loadOf}
-use Rattle.rules.proofs.Bounds.{work-le}
+use Rattle.load.proofs.Work.{work-le}
 use Rattle.rules.proofs.SumLoop.{Summing, summing-start, summing-in, summing-out, summing-end}
 use Rattle.checking.proofs.load_of.Statement.{statement}
 use Rattle.checking.proofs.load_of.Tie as tie

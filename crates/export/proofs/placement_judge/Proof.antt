@@ -2,7 +2,7 @@
 use mathlib.Core.Path.{ap, _∙_}
 use borrow.Author.Needs.{needs}
 use Rattle.judge.specs.declared.Judged.{Judged}
-use Rattle.judge.specs.Judge.{numberOf}
+use Rattle.judge.specs.Judge.{judgementNumber}
 use Rattle.export.proofs.placement_judge.Statement.{statement}
 use Rattle.export.proofs.placement_judge.Tie as tie
 
@@ -12,4 +12,4 @@ placement-judge-spec =
     (tie.spec
     (λ c κs. search needs)  -- judge-requires
     (λ c κs. search needs)  -- number-requires
-    (λ c. c .judgement-number .ensures ∙ ap (λ (z : Judged). numberOf (z .judgement)) (c .before .judge .ensures)))  -- returns
+    (λ c. c .judgement-number .ensures ∙ ap (λ (z : Judged). judgementNumber (z .judgement)) (c .before .judge .ensures)))  -- returns

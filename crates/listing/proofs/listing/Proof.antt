@@ -1,8 +1,7 @@
 -- `listing` meets its contract: one line for a refusal, or the lines of the answer.
-use mathlib.Core.Path.{_∙_}
 use native.Mathlib.Omega.{arith}
 use borrow.Author.Needs.{needs}
-use Rattle.listing.proofs.Laws.{answered}
+use Rattle.search.proofs.Written.{answered}
 use Rattle.listing.proofs.listing.Statement.{statement}
 use Rattle.listing.proofs.listing.Tie as tie
 
@@ -19,23 +18,17 @@ listing-spec =
     (λ c κs.
     let r = c .before .before .before in
     let m = r .before .before in
-    let v = m .before .before .before .before in
-    let w = v .before .before .before .before .before in
-    let a = answered (w .args .file .now) (w .args .answer .now) (v .search .last .1 .0) (v .search .result) (m .searched2 .given .0 .0) (λ k. v .before .before .before .shared-slice-known .given k .fits) (v .search .ensures) (m .searched2 .given .1) in
+    let v = m .before .before in
+    let w = v .before .before .before in
+    let a = answered (w .args .file .now) (w .args .answer .now) (v .search .last .1 .0) (v .search .result) (m .searched2 .given .0 .0) (λ k. v .before .before .shared-slice-known .given k .fits) (v .search .ensures) (m .searched2 .given .1) in
     let e = r .read .ensures in
-    (w .pre .0, rw e (a .sound), v .search .kept .1 .0 ∙ w .pre .1, rw e (a .least), omega (arith, a .most, w .pre .1)))  -- put-answer-requires
-    (λ c. search needs)  -- same-length
-    (λ c. search needs)  -- same-length-2
+    (rw e (a .sound), rw e (a .least), omega (arith, a .most)))  -- put-answer-requires
     (λ c.
-    let l = c .before .before in
-    let m = l .before .before .before .before in
-    let v = m .before .before .before .before in
-    record { answer = v .search .result; searched = v .search .ensures; text = rw (m .searched .given .1, ← (l .before .cause-number .ensures .0)) (l .refused-line .ensures .0) })  -- returns
-    (λ c. search needs)  -- same-length-3
-    (λ c. search needs)  -- same-length-4
+    let m = c .before .before .before .before in
+    let v = m .before .before in
+    record { answer = v .search .result; searched = v .search .ensures; text = rw (m .searched .given .1, ← (c .before .cause-number .ensures .0)) (c .refused-line .ensures .0) })  -- returns
     (λ c.
-    let l = c .before .before in
-    let r = l .before .before .before .before in
+    let r = c .before .before .before .before in
     let m = r .before .before in
-    let v = m .before .before .before .before in
-    record { answer = v .search .result; searched = v .search .ensures; text = rw (m .searched2 .given .1, ← (r .read .ensures)) (l .put-answer .ensures) }))  -- returns-2
+    let v = m .before .before in
+    record { answer = v .search .result; searched = v .search .ensures; text = rw (m .searched2 .given .1, ← (r .read .ensures)) (c .put-answer .ensures) }))  -- returns-2

@@ -9,7 +9,7 @@ use lib.ListN.{length, getD}
 use Rattle.load.specs.declared.Load.{Load}
 use Rattle.rules.specs.Placement.{placed}
 use Rattle.rules.specs.Rules.{loadOn}
-use Rattle.rules.proofs.Bounds.{work-le}
+use Rattle.load.proofs.Work.{work-le}
 use Rattle.rules.proofs.SumLoop.{Summing, summing-start, summing-in, summing-out, summing-end}
 use Rattle.report.proofs.load_on.Statement.{statement}
 use Rattle.report.proofs.load_on.Tie as tie

@@ -1,26 +1,35 @@
 -- `entry` meets its contract. Assumes nothing.
-use Prim.Native.Nat.{ℕ, _+_, _*_, _≤_, _<_}
-use native.Mathlib.Nat.{mul-add, mul-one, mul-le-mul-left, mul-le-mul}
+use mathlib.Core.Path.{sym, ap}
 use native.Mathlib.Omega.{arith}
 use borrow.Author.Tests.{lt-ltb, le-ltb}
-use Rattle.table.specs.declared.Width.{Width}
-use Rattle.table.specs.Columns.{Fits}
+use borrow.Author.Needs.{needs}
+use Rattle.layout.specs.declared.Shape.{Shape}
+use Rattle.layout.proofs.Limits.{order-below}
+use Rattle.table.proofs.Filling.{record-in, record-low}
 use Rattle.table.proofs.entry.Statement.{statement}
 use Rattle.table.proofs.entry.Tie as tie
-
--- record j lies within the file
-room : {len first size offset : ℕ} {width : Width} {n j : ℕ} → Fits len first size offset width n → j < n → (first + size * j + size ≤ len) × (size * j ≤ 1408)
-room {size = size} {n = n} {j = j} h l =
-    let up : size * (j + 1) ≤ size * n = mul-le-mul-left size (omega arith) in
-    (omega (arith, h .rows, mul-add size j 1, mul-one size), omega (arith, mul-le-mul (h .short) (h .few), mul-add size j 1))
 
 pub entry-spec : {M : Type 1} → statement M
 entry-spec =
     tie.close
     (tie.spec
-    (λ c. simp (le-ltb _ _ (c .if1 .taken)))  -- returns
-    (λ c. omega (arith, room (c .before .before .pre) (c .if1 .left)))  -- mul-number-at
-    (λ c. omega (arith, room (c .before .before .pre) (c .if1 .left)))  -- add-number-at
-    (λ c. omega (arith, room (c .before .before .pre) (c .if1 .left)))  -- add-number-at-2
-    (λ c κs. omega (arith, room (c .before .before .pre) (c .if1 .left), c .before .before .pre .holds))  -- number-at-requires
-    (λ c. simp (lt-ltb _ _ (c .before .if1 .left)) (c .number-at .ensures)))  -- returns-2
+    (λ c κs. search needs)  -- shape-of-requires
+    (λ c. omega (arith, ap (λ (h : Shape). h .order) (c .shape-of .ensures), order-below (c .before .before .args .kind)))  -- mul-if1
+    (λ c. omega (arith, ap (λ (h : Shape). h .order) (c .shape-of .ensures), order-below (c .before .before .args .kind)))  -- element-copy-out-if1
+    (λ c. simp (le-ltb _ _ (rw (ap (λ (h : Shape). h .order) (c .before .before .shape-of .ensures)) at (c .if1 .taken))))  -- returns
+    (λ c κs.
+    let s = c .before .before .before .before in
+    let r = s .pre .reached .counted in
+    let l = rw (ap (λ (h : Shape). h .order) (c .before .before .shape-of .ensures)) at (c .if1 .left) in
+    (r, omega (arith, l, r .few (s .args .kind))))  -- place-of-requires
+    (λ c.
+    let s = c .before .before .before .before .before in
+    let l = rw (ap (λ (h : Shape). h .order) (c .before .before .before .shape-of .ensures)) at (c .before .if1 .left) in
+    record { fits = omega (arith, c .place-of .ensures, s .pre .holds, record-in (s .pre .reached) (s .args .kind) (s .args .j) l, record-low (s .pre .reached) (s .args .kind) (s .args .j) l) })  -- add-number-at
+    (λ c κs.
+    let s = c .before .before .before .before .before in
+    let l = rw (ap (λ (h : Shape). h .order) (c .before .before .before .shape-of .ensures)) at (c .before .if1 .left) in
+    omega (arith, c .place-of .ensures, s .pre .holds, record-in (s .pre .reached) (s .args .kind) (s .args .j) l))  -- number-at-requires
+    (λ c.
+    let l = rw (ap (λ (h : Shape). h .order) (c .before .before .before .before .shape-of .ensures)) at (c .before .before .if1 .left) in
+    simp (lt-ltb _ _ l, sym (c .before .place-of .ensures)) (c .number-at .ensures)))  -- returns-2

@@ -3,16 +3,17 @@ use native.Mathlib.Omega.{arith}
 use borrow.Author.Needs.{needs}
 use Prim.Native.Nat.{_-_}
 use lib.ListN.{length}
-use Rattle.table.specs.Columns.{fieldOf}
+use Rattle.layout.specs.Format.{count}
+use Rattle.table.specs.Columns.{fieldAt}
 use Rattle.table.proofs.Filling.{Filled, fill-start, fill-put, fill-end}
 use Rattle.table.proofs.fill.Statement.{statement}
 use Rattle.table.proofs.fill.Tie as tie
 
 abbrev Inv-loop : tie.InvT-loop
-Inv-loop file first size offset width n out₀ j₀ out j = Filled (length out₀) n (fieldOf file first size offset width) j out
+Inv-loop file x kind offset width out₀ j₀ out j = Filled (length out₀) (count x kind) (fieldAt file x kind offset width) j out
 
 abbrev μ-loop : tie.MeasureT-loop
-μ-loop file first size offset width n out₀ j₀ out j = length out₀ - j
+μ-loop file x kind offset width out₀ j₀ out j = length out₀ - j
 
 pub fill-spec : {M : Type 1} → statement M
 fill-spec =

@@ -12,7 +12,7 @@ message-verdict-spec =
     (tie.spec
     (λ c. search needs)  -- add-word-at
     (λ c κs. search needs)  -- word-at-requires
-    (λ c κs. search needs)  -- is-within-requires
+    (λ c κs. search needs)  -- is-in-range-requires
     (λ c κs. search needs)  -- pair-verdict-requires
-    (λ c. simp (← (c .before .before .before .word-at .ensures), sym (c .before .before .is-within .ensures) ∙ c .before .if1 .taken) (c .pair-verdict .ensures))  -- returns
-    (λ c. simp (← (c .before .before .word-at .ensures), sym (c .before .is-within .ensures) ∙ c .if1 .left)))  -- returns-2
+    (λ c. simp (← (c .before .before .before .word-at .ensures), sym (c .before .before .is-in-range .ensures) ∙ c .before .if1 .taken) (c .pair-verdict .ensures))  -- returns
+    (λ c. simp (← (c .before .before .word-at .ensures), sym (c .before .is-in-range .ensures) ∙ c .if1 .left)))  -- returns-2

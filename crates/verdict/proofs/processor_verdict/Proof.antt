@@ -12,6 +12,6 @@ processor-verdict-spec =
     (tie.spec
     (λ c. search needs)  -- add-half-at
     (λ c κs. search needs)  -- half-at-requires
-    (λ c κs. search needs)  -- is-within-requires
-    (λ c. simp (← (c .before .before .half-at .ensures .0), sym (c .before .is-within .ensures) ∙ c .if1 .taken))  -- returns
-    (λ c. simp (← (c .before .before .half-at .ensures .0), sym (c .before .is-within .ensures) ∙ c .if1 .left)))  -- returns-2
+    (λ c κs. search needs)  -- is-in-range-requires
+    (λ c. simp (← (c .before .before .half-at .ensures .0), sym (c .before .is-in-range .ensures) ∙ c .if1 .taken))  -- returns
+    (λ c. simp (← (c .before .before .half-at .ensures .0), sym (c .before .is-in-range .ensures) ∙ c .if1 .left)))  -- returns-2
