@@ -1,3 +1,4 @@
 pub mod Answering
 pub mod Writing
 pub mod Refusal
+pub mod Meaning
