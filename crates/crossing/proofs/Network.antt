@@ -27,7 +27,7 @@ use Rattle.partial.specs.declared.State.{State}
 use Rattle.partial.specs.declared.Sizes.{Sizes}
 use Rattle.partial.specs.Partial.{Lent, Fits}
 use Rattle.partial.proofs.OneMore.{kept-le}
-use Rattle.region.proofs.Filling.{placed-at}
+use Rattle.rules.proofs.Placed.{placed-at}
 use Rattle.packing.specs.Packing.{joined}
 use Rattle.offer.specs.Offer.{Fair, Choices}
 use Rattle.offer.proofs.Meeting.{not-both}

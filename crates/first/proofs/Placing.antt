@@ -25,9 +25,10 @@ use Rattle.ledger.specs.Ledger.{Ledger, Covered}
 use Rattle.ledger.proofs.Growth.{grows-refl}
 use Rattle.partial.specs.declared.State.{State}
 use Rattle.partial.specs.Partial.{Stepped, StepOf}
-use Rattle.region.specs.Region.{Within, Refuted, Witness, Marked, Settled, Sooner}
+use Rattle.goal.specs.Order.{EarlierThan}
+use Rattle.region.specs.Region.{Within, Refuted, Witness, Marked, Settled}
 use Rattle.region.specs.Begins.{Begins, Ready}
-use Rattle.region.proofs.Filling.{placed-is}
+use Rattle.rules.proofs.Placed.{placed-is}
 use Rattle.region.proofs.Refuting.{and-there, and-part, and-within}
 use Rattle.region.proofs.Settling.{settled-nothing, settled-covered, settled-cut, settled-passed, first-start, first-pass, first-step, first-end}
 use Rattle.twin.specs.Twin.{Interchangeable}
@@ -178,7 +179,7 @@ module _ {t : Table} {places : ℕ} {s : State} {k : ℕ} {witness old : List �
         first-taken {next} {last} l step f z = record {
           good = record { part = λ j q u. part j q (or-right (eqb j k && eqb q p) (standing (s .on) j q) u); whole = z .good .whole; keeps = z .good .keeps; clear = z .good .clear };
           settled = first-step (standing (s .on)) (λ j a. w .fits .placed-task j (omega arith) (w .placed-below j a)) part (z .good .whole .partial) settled-so-far
-              (subst (λ (on : ℕ → ℕ → Bool). Settled t places (λ e. Within on e × Sooner (f .on) e) new (r .count) (r .cut) last (f .count) (f .cut)) (step .on) (z .settled)) l;
+              (subst (λ (on : ℕ → ℕ → Bool). Settled t places (λ e. Within on e × EarlierThan (standing (f .on)) e) new (r .count) (r .cut) last (f .count) (f .cut)) (step .on) (z .settled)) l;
         }
           where
             part : Part (andTask (standing (s .on)) k p) (standing (f .on))

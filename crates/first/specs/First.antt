@@ -13,7 +13,8 @@ use Rattle.timing.specs.Timing.{tasksIn}
 use Rattle.ledger.specs.Ledger.{Ledger, Covered}
 use Rattle.partial.specs.declared.State.{State}
 use Rattle.partial.specs.Partial.{Fits}
-use Rattle.region.specs.Region.{Within, Refuted, Witness, Settled, Sooner}
+use Rattle.goal.specs.Order.{EarlierThan}
+use Rattle.region.specs.Region.{Within, Refuted, Witness, Settled}
 use Rattle.first.specs.declared.Tried.{Tried}
 use Rattle.first.specs.declared.Reached.{Reached}
 
@@ -47,4 +48,4 @@ TriedAs t places s k p witness old before cut new r = TriesAs (r .taken) t place
 -- the first good placement with the tasks where the state has them, and every earlier one settled
 pub record FirstOf (t : Table) (places : ℕ) (s : State) (old : List ℕ) (before : ℕ) (cut : Bool) (new : List ℕ) (r : Reached) : Type 0 where
   pub good : Witness t (InTime t) (standing (s .on)) (r .on)
-  pub settled : Settled t places (λ e. Within (standing (s .on)) e × Sooner (r .on) e) old before cut new (r .count) (r .cut)
+  pub settled : Settled t places (λ e. Within (standing (s .on)) e × EarlierThan (standing (r .on)) e) old before cut new (r .count) (r .cut)

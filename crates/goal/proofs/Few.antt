@@ -8,13 +8,14 @@ use native.Mathlib.Decide.{ℕ-discrete}
 use borrow.Author.Tests.{eq-eqb, ne-eqb}
 use lib.Dec.{eqb, ltb, ltb→lt}
 use lib.ListN.{length, getD}
+use lib.Pow.{pow-mono}
 use Rattle.mask.proofs.Tests.{and-left}
 use Rattle.mask.proofs.Laws.{has-below}
 use Rattle.table.specs.declared.Table.{Table}
 use Rattle.table.specs.Sound.{Sound}
 use Rattle.answer.specs.Answer.{countOf}
 use Rattle.goal.specs.Goal.{Listed}
-use Rattle.goal.proofs.Theorems.{listed-is-met}
+use Rattle.goal.proofs.Mark.{met-elim}
 
 -- n different numbers below m are no more than m
 different-few : (n m : ℕ) (f : ℕ → ℕ) → ((j : ℕ) → j < n → f j < m) → ((i j : ℕ) → i < n → j < n → f i ≡ f j → i ≡ j) → n ≤ m
@@ -46,15 +47,19 @@ different-few (suc n) (suc m) f small different =
     apart i j a b (no e) (yes h) q = absurd (last i a (sym (other i e) ∙ q ∙ top j h))
     apart i j a b (no e) (no h) q = different i j (omega arith) (omega arith) (sym (other i e) ∙ q ∙ other j h)
 
-pub listed-few : {t : Table} → Sound t → {cs : List ℕ} → Listed t cs → length cs ≤ 2 ^ 24
-listed-few {t} h {cs} w = different-few (length cs) (2 ^ 24) (λ j. getD cs j 0) small (w .different)
-  where
-    small : (j : ℕ) → j < length cs → getD cs j 0 < 2 ^ 24
-    small j l =
-        let m = listed-is-met h w j l in
-        ltb→lt (getD cs j 0) (2 ^ 24)
-        (has-below 24 (getD cs j 0) (λ k u. omega (arith, ltb→lt k (length (m .0)) (and-left (ltb k (length (m .0))) (eqb (getD (m .0) k 0) (m .1)) (m .6 k u)), m .2 .long, h .tasks .most)))
+module _ {t : Table} (h : Sound t) {cs : List ℕ} (w : Listed t cs) where
+  -- each is a set of the table's tasks
+  pub listed-below : (j : ℕ) → j < length cs → getD cs j 0 < 2 ^ t .tasks .count
+  listed-below j l =
+      let m = met-elim h (getD cs j 0) (w .met j l) in
+      let e = m .0 in
+      let o = m .4 in
+      ltb→lt (getD cs j 0) (2 ^ t .tasks .count)
+      (has-below (t .tasks .count) (getD cs j 0) (λ k u. omega (arith, ltb→lt k (length e) (and-left (ltb k (length e)) (eqb (getD e k 0) (o .0)) (o .2 k u)), m .1 .long)))
 
--- the count of bytes of an answer
-pub count-small : {t : Table} → Sound t → {cs : List ℕ} → Listed t cs → countOf (t .tasks .count) (length cs) < 2 ^ 32
-count-small {t} h {cs} w = omega (arith, listed-few h w, h .tasks .most)
+  listed-few : length cs ≤ 2 ^ 24
+  listed-few = omega (arith, different-few (length cs) (2 ^ t .tasks .count) (λ j. getD cs j 0) listed-below (w .different), pow-mono (h .tasks .most))
+
+  -- the count of bytes of an answer
+  pub count-small : countOf (t .tasks .count) (length cs) < 2 ^ 32
+  count-small = omega (arith, listed-few, h .tasks .most)

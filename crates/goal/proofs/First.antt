@@ -1,7 +1,6 @@
 -- The first good placement: what firstGood finds, in terms of the tick run. Assumes nothing.
-use mathlib.Core.Path.{_≡_, refl, sym, ap, _∙_}
-use mathlib.Core.Logic.{_↔_}
-use mathlib.Core.Bool.{Bool, true, false}
+use mathlib.Core.Path.{_≡_, sym, _∙_}
+use mathlib.Core.Bool.{Bool}
 use mathlib.Core.List.{List}
 use Prim.Native.Nat.{ℕ, _≤_, _<_}
 use native.Mathlib.Omega.{arith}
@@ -9,24 +8,11 @@ use native.Mathlib.Decide.{decLt}
 use borrow.Author.Tests.{lt-ltb, le-ltb}
 use lib.Dec.{T, eqb→eq}
 use Rattle.finite.proofs.Search.{FirstBelow, first-below, lowest, nowhere}
-use Rattle.verdict.specs.declared.Cause.{Cause}
-use Rattle.verdict.specs.declared.Cause.the-variants.{Cut, UnknownMark, OutOfOrder, TooMany, OutOfRange, NotInFile, PriorityUsed, PeriodsDiffer, MessageRepeated, HyperperiodTooLarge, Missing, ShortAnswer, PlacementLength, UnknownProcessor, NoConflictMask}
-use Rattle.table.specs.declared.Reading.{Reading}
 use Rattle.table.specs.declared.Table.{Table}
-use Rattle.table.specs.Encode.{encode}
-use Rattle.table.specs.Refusal.{causeNumber}
 use Rattle.table.specs.Sound.{Sound}
-use Rattle.table.proofs.EncodedBytes.{encode-bytes}
-use Rattle.table.proofs.RoundTrip.{read-encode}
-use Rattle.schedule.specs.Arrays.{Says}
-use Rattle.rules.specs.declared.Rule.{Rule}
-use Rattle.rules.specs.declared.Rule.the-variants.{Residence, CoResidence, Exclusion, Memory, Utilisation, Network, Deadline}
-use Rattle.rules.specs.Rules.{ruleNumber}
-use Rattle.judge.specs.declared.Judgement.{Judgement}
-use Rattle.judge.specs.declared.Judgement.the-variants.{Refused, Kept, Broken}
-use Rattle.judge.specs.Judge.{PlacementOf, judgedOn, judgeOf, judgementNumber}
+use Rattle.judge.specs.Judge.{PlacementOf, judgedOn, judgementNumber}
 use Rattle.judge.specs.Good.{Good}
-use Rattle.judge.proofs.InTime.{judged-kept}
+use Rattle.judge.proofs.Meaning.{kept-good, good-kept, zero-kept}
 use Rattle.answer.specs.Answer.{foundHead, noneHead}
 use Rattle.goal.specs.Order.{Earlier}
 use Rattle.goal.specs.Goal.{placements, nth, isGood, firstGood, headOf}
@@ -34,56 +20,12 @@ use Rattle.goal.proofs.Numbers.{placementNumber, placement-at-long, pla
 
 -- ---- the judge answers 0 exactly for a good placement
 
-cause-some : (c : Cause) → 1 ≤ causeNumber c
-cause-some Cut = omega arith
-cause-some UnknownMark = omega arith
-cause-some OutOfOrder = omega arith
-cause-some TooMany = omega arith
-cause-some OutOfRange = omega arith
-cause-some NotInFile = omega arith
-cause-some PriorityUsed = omega arith
-cause-some PeriodsDiffer = omega arith
-cause-some MessageRepeated = omega arith
-cause-some HyperperiodTooLarge = omega arith
-cause-some Missing = omega arith
-cause-some ShortAnswer = omega arith
-cause-some PlacementLength = omega arith
-cause-some UnknownProcessor = omega arith
-cause-some NoConflictMask = omega arith
-
-rule-some : (r : Rule) → 1 ≤ ruleNumber r
-rule-some Residence = omega arith
-rule-some CoResidence = omega arith
-rule-some Exclusion = omega arith
-rule-some Memory = omega arith
-rule-some Utilisation = omega arith
-rule-some Network = omega arith
-rule-some Deadline = omega arith
-
-zero-kept : (j : Judgement) → judgementNumber j ≡ 0 → j ≡ Kept
-zero-kept (Refused cause place) e = absurd (omega (arith, cause-some cause))
-zero-kept Kept e = refl
-zero-kept (Broken rule k) e = absurd (omega (arith, rule-some rule))
-
--- an answer with both of its sides
-pub says : (b : Bool) {A : Type 0} → (T b → A) → (A → T b) → Says b A
-says true f g = f tt
-says false f g = g
-
 module _ {t : Table} (s : Sound t) (q : List ℕ) where
-  -- the table is that of a file, for which the judge's law says it
-  kept-good : (judgedOn t q .judgement ≡ Kept) ↔ Good t q
-  unfolding judgeOf
-  kept-good = rw (read-encode t s) at (judged-kept (encode t) (encode-bytes t) (ap (λ (r : Reading). r .outcome) (read-encode t s)) q)
-
   pub is-good : T (isGood t q) → Good t q
-  is-good u = kept-good .0 (zero-kept (judgedOn t q .judgement) (eqb→eq (judgementNumber (judgedOn t q .judgement)) 0 u))
+  is-good u = kept-good s q (zero-kept (judgedOn t q .judgement) (eqb→eq (judgementNumber (judgedOn t q .judgement)) 0 u))
 
   pub good-is : Good t q → T (isGood t q)
-  good-is g = rw (kept-good .1 g) tt
-
-  pub good-says : Says (isGood t q) (Good t q)
-  good-says = says (isGood t q) is-good good-is
+  good-is g = rw (good-kept s q g) tt
 
 -- ---- placements and their numbers
 
@@ -155,6 +97,13 @@ module _ {t : Table} (s : Sound t) where
       go : {y i : ℕ} {p : ℕ → Bool} {n : ℕ} → FirstBelow n p y → i < y → T (p i) → ⊥
       go (lowest l u h) k = h _ k
       go (nowhere e h) k = h _ (omega arith)
+
+  -- so none that 01 calls earlier, nor any where none is found
+  pub earlier-bad : firstGood t < placements t → (e : List ℕ) → Earlier e (nth t (firstGood t)) → Good t e → ⊥
+  earlier-bad l e w g = before-bad (omega (arith, nth-number t l, earlier-below (nth-placement t l) (g .placement) w)) g
+
+  pub none-good : placements t ≤ firstGood t → (q : List ℕ) → Good t q → ⊥
+  none-good l q g = before-bad (omega (arith, number-below (g .placement))) g
 
   -- a good placement before which no good one stands
   module _ {q : List ℕ} (g : Good t q) (first : (e : List ℕ) → PlacementOf t e → Earlier e q → Good t e → ⊥) where

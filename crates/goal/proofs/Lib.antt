@@ -1,5 +1,4 @@
 pub mod Numbers
 pub mod First
 pub mod Mark
-pub mod Theorems
 pub mod Few

@@ -15,7 +15,6 @@ use Rattle.mask.proofs.Tests.{same-test, and-both, and-left, and-right}
 use Rattle.mask.proofs.Laws.{subset-within, within-subset}
 use Rattle.table.specs.declared.Table.{Table}
 use Rattle.table.specs.Sound.{Sound}
-use Rattle.schedule.specs.Arrays.{Says}
 use Rattle.rules.specs.declared.Check.{Check}
 use Rattle.rules.specs.declared.Check.the-variants.{Kept, Broken}
 use Rattle.rules.specs.Placement.{placed}
@@ -25,14 +24,10 @@ use Rattle.rules.proofs.Order.{kept-keeps, keeps-kept}
 use Rattle.rules.proofs.Sets.{sets-placed}
 use Rattle.judge.specs.Judge.{PlacementOf}
 use Rattle.judge.proofs.Limits.{placeable-of}
-use Rattle.goal.specs.Goal.{nth, firstGood, isKept, keepsRules, keepsResidence, holds, uncovered, markOf}
-use Rattle.goal.proofs.First.{says, numberIn, Before, number-nth, before-placement, before-nth}
+use Rattle.goal.specs.Goal.{nth, firstGood, isKept, keepsRules, Resides, keepsResidence, AllOn, OnOne, holds, HoldsListed, uncovered, markOf}
+use Rattle.goal.proofs.First.{numberIn, Before, number-nth, before-placement, before-nth}
 
 -- ---- rules and residence
-
--- every task of e is in its residence
-abbrev pub Resides : Table → List ℕ → Type 0
-Resides t e = (k : ℕ) → k < t .tasks .count → T (residenceBroken t (placed e) k) → ⊥
 
 module _ (t : Table) (q : List ℕ) where
   pub rules-keep : T (keepsRules t q) → Keeps t (placed q)
@@ -47,9 +42,6 @@ module _ (t : Table) (q : List ℕ) where
   unfolding keepsRules
   keep-rules w = rw (keeps-kept t (placed q) (λ k. false) w (λ k l u. u)) tt
 
-  pub keeps-says : Says (keepsRules t q) (Keeps t (placed q))
-  keeps-says = says (keepsRules t q) rules-keep keep-rules
-
   pub residence-elim : T (keepsResidence t q) → Resides t q
   unfolding keepsResidence
   residence-elim u k l b = T-not (someBelow (t .tasks .count) (residenceBroken t (placed q))) u (some-intro (t .tasks .count) (residenceBroken t (placed q)) k l b)
@@ -59,10 +51,6 @@ module _ (t : Table) (q : List ℕ) where
   residence-intro f = not-T (someBelow (t .tasks .count) (residenceBroken t (placed q))) (λ u. let r = some-elim (t .tasks .count) (residenceBroken t (placed q)) u in f (r .0) (r .1) (r .2))
 
 -- ---- conflicts
-
--- all tasks of the conflict c stand on p in q
-abbrev pub AllOn : List ℕ → ℕ → ℕ → Type 0
-AllOn q c p = (k : ℕ) → T (has c k) → T (placed q k p)
 
 -- tasks stand only on the table's processors
 pub stands-known : {t : Table} {q : List ℕ} → PlacementOf t q → (k p : ℕ) → T (placed q k p) → p < t .processors .count
@@ -75,20 +63,21 @@ module _ {t : Table} (s : Sound t) {q : List ℕ} (w : PlacementOf t q) where
   same-set k p = ap (λ (on : ℕ → ℕ → Bool). on k p) (sets-placed q (placeable-of s w))
 
   module _ (c : ℕ) where
-    on-processor : {p : ℕ} → p < t .processors .count → AllOn q c p → T (holds t q c)
-    unfolding holds
-    on-processor {p} l f =
-        some-intro (t .processors .count) (λ p. within c (getD (setsOf q) p 0)) p l (subset-within c (getD (setsOf q) p 0) (λ k u. rw (same-set k p) (f k u)))
-
     -- any p will do: beyond the processors no task stands, so c has none, and stands on each
-    pub holds-intro : (p : ℕ) → AllOn q c p → T (holds t q c)
-    holds-intro p f = go (decLt p (t .processors .count))
+    pub on-one : (p : ℕ) → AllOn q c p → OnOne t q c
+    on-one p f = go (decLt p (t .processors .count))
       where
-        go : Dec (p < t .processors .count) → T (holds t q c)
-        go (yes l) = on-processor l f
-        go (no l) = on-processor (s .processors .some) (λ k u. absurd (l (stands-known w k p (f k u))))
+        go : Dec (p < t .processors .count) → OnOne t q c
+        go (yes l) = (p, l, f)
+        go (no l) = (0, s .processors .some, λ k u. absurd (l (stands-known w k p (f k u))))
 
-    pub holds-elim : T (holds t q c) → (p : ℕ) × (p < t .processors .count) × AllOn q c p
+    pub holds-intro : OnOne t q c → T (holds t q c)
+    unfolding holds
+    holds-intro x =
+        some-intro (t .processors .count) (λ p. within c (getD (setsOf q) p 0)) (x .0) (x .1)
+        (subset-within c (getD (setsOf q) (x .0) 0) (λ k u. rw (same-set k (x .0)) (x .2 k u)))
+
+    pub holds-elim : T (holds t q c) → OnOne t q c
     unfolding holds
     holds-elim u =
         let r = some-elim (t .processors .count) (λ p. within c (getD (setsOf q) p 0)) u in
@@ -96,11 +85,7 @@ module _ {t : Table} (s : Sound t) {q : List ℕ} (w : PlacementOf t q) where
 
 -- ---- the mark
 
--- all tasks of some listed conflict stand on one processor
-abbrev pub HoldsListed : List ℕ → List ℕ → Type 0
-HoldsListed cs e = (j p : ℕ) × (j < length cs) × AllOn e (getD cs j 0) p
-
--- the same, as a test
+-- all tasks of some listed conflict stand on one processor, as a test
 abbrev listedTest : Table → List ℕ → List ℕ → Bool
 listedTest t cs e = someBelow (length cs) (λ j. holds t e (getD cs j 0))
 
@@ -110,20 +95,19 @@ someUncovered t cs = someBelow (firstGood t) (λ i. uncovered t cs (nth t i))
 
 module _ {t : Table} (s : Sound t) (cs : List ℕ) where
   module _ {e : List ℕ} (w : PlacementOf t e) where
-    listed-intro : HoldsListed cs e → T (listedTest t cs e)
-    listed-intro h = some-intro (length cs) (λ j. holds t e (getD cs j 0)) (h .0) (h .2) (holds-intro s w (getD cs (h .0) 0) (h .1) (h .3))
+    listed-intro : HoldsListed t cs e → T (listedTest t cs e)
+    listed-intro h = some-intro (length cs) (λ j. holds t e (getD cs j 0)) (h .0) (h .1) (holds-intro s w (getD cs (h .0) 0) (h .2))
 
-    listed-elim : T (listedTest t cs e) → HoldsListed cs e
+    listed-elim : T (listedTest t cs e) → HoldsListed t cs e
     listed-elim u =
         let r = some-elim (length cs) (λ j. holds t e (getD cs j 0)) u in
-        let p = holds-elim s w (getD cs (r .0) 0) (r .2) in
-        (r .0, p .0, r .1, p .2)
+        (r .0, r .1, holds-elim s w (getD cs (r .0) 0) (r .2))
 
     uncovered-intro : Keeps t (placed e) → (T (listedTest t cs e) → ⊥) → T (uncovered t cs e)
     unfolding uncovered
     uncovered-intro k f = and-both (keepsRules t e) (not (listedTest t cs e)) (keep-rules t e k) (not-T (listedTest t cs e) f)
 
-    uncovered-elim : T (uncovered t cs e) → Keeps t (placed e) × (HoldsListed cs e → ⊥)
+    uncovered-elim : T (uncovered t cs e) → Keeps t (placed e) × (HoldsListed t cs e → ⊥)
     unfolding uncovered
     uncovered-elim u = (
       rules-keep t e (and-left (keepsRules t e) (not (listedTest t cs e)) u),
@@ -135,7 +119,7 @@ module _ {t : Table} (s : Sound t) (cs : List ℕ) where
     uncovered-before b u = some-intro (firstGood t) (λ i. uncovered t cs (nth t i)) (numberIn t e) b (rw (number-nth w) u)
 
   -- 1: complete
-  pub mark-complete : ((e : List ℕ) → PlacementOf t e → Before t e → Keeps t (placed e) → HoldsListed cs e) → markOf t cs ≡ true
+  pub mark-complete : ((e : List ℕ) → PlacementOf t e → Before t e → Keeps t (placed e) → HoldsListed t cs e) → markOf t cs ≡ true
   unfolding markOf
   mark-complete f = same-test (markOf t cs) true (λ u. tt) (λ u. not-T (someUncovered t cs) none)
     where
@@ -146,20 +130,20 @@ module _ {t : Table} (s : Sound t) (cs : List ℕ) where
           let n = uncovered-elim w (r .2) in
           n .1 (f (nth t (r .0)) w (before-nth t (r .1)) (n .0))
 
-  pub complete-listed : markOf t cs ≡ true → {e : List ℕ} → PlacementOf t e → Before t e → Keeps t (placed e) → HoldsListed cs e
+  pub complete-listed : markOf t cs ≡ true → {e : List ℕ} → PlacementOf t e → Before t e → Keeps t (placed e) → HoldsListed t cs e
   unfolding markOf
   complete-listed m {e} w b k = go (answer (listedTest t cs e))
     where
-      go : Answer (listedTest t cs e) → HoldsListed cs e
+      go : Answer (listedTest t cs e) → HoldsListed t cs e
       go (passes u) = listed-elim w u
       go (fails f) = absurd (T-not (someUncovered t cs) (rw m tt) (uncovered-before w b (uncovered-intro w k f)))
 
   -- 0: cut
-  pub mark-cut : {e : List ℕ} → PlacementOf t e → Before t e → Keeps t (placed e) → (HoldsListed cs e → ⊥) → markOf t cs ≡ false
+  pub mark-cut : {e : List ℕ} → PlacementOf t e → Before t e → Keeps t (placed e) → (HoldsListed t cs e → ⊥) → markOf t cs ≡ false
   unfolding markOf
   mark-cut w b k f = same-test (markOf t cs) false (λ u. T-not (someUncovered t cs) u (uncovered-before w b (uncovered-intro w k (λ h. f (listed-elim w h))))) absurd
 
-  pub cut-listed : markOf t cs ≡ false → (e : List ℕ) × PlacementOf t e × Before t e × Keeps t (placed e) × (HoldsListed cs e → ⊥)
+  pub cut-listed : markOf t cs ≡ false → (e : List ℕ) × PlacementOf t e × Before t e × Keeps t (placed e) × (HoldsListed t cs e → ⊥)
   unfolding markOf
   cut-listed m =
       let r = some-elim (firstGood t) (λ i. uncovered t cs (nth t i)) (rw (not-false (someUncovered t cs) m) tt) in
@@ -170,17 +154,16 @@ module _ {t : Table} (s : Sound t) (cs : List ℕ) where
 -- ---- conflicts that an earlier placement holds, with every task in its residence
 
 module _ {t : Table} (s : Sound t) (c : ℕ) where
-  pub met-intro : {e : List ℕ} → PlacementOf t e → Before t e → Resides t e → (p : ℕ) → AllOn e c p
+  pub met-intro : {e : List ℕ} → PlacementOf t e → Before t e → Resides t e → OnOne t e c
       → T (someBelow (firstGood t) (λ i. keepsResidence t (nth t i) && holds t (nth t i) c))
-  met-intro {e} w b r p f =
+  met-intro {e} w b r o =
       some-intro (firstGood t) (λ i. keepsResidence t (nth t i) && holds t (nth t i) c) (numberIn t e) b
-      (rw (number-nth w) (and-both (keepsResidence t e) (holds t e c) (residence-intro t e r) (holds-intro s w c p f)))
+      (rw (number-nth w) (and-both (keepsResidence t e) (holds t e c) (residence-intro t e r) (holds-intro s w c o)))
 
   pub met-elim : T (someBelow (firstGood t) (λ i. keepsResidence t (nth t i) && holds t (nth t i) c))
-      → (e : List ℕ) × (p : ℕ) × PlacementOf t e × Before t e × Resides t e × (p < t .processors .count) × AllOn e c p
+      → (e : List ℕ) × PlacementOf t e × Before t e × Resides t e × OnOne t e c
   met-elim u =
       let r = some-elim (firstGood t) (λ i. keepsResidence t (nth t i) && holds t (nth t i) c) u in
       let e = nth t (r .0) in
       let w = before-placement t (r .1) in
-      let h = holds-elim s w c (and-right (keepsResidence t e) (holds t e c) (r .2)) in
-      (e, h .0, w, before-nth t (r .1), residence-elim t e (and-left (keepsResidence t e) (holds t e c) (r .2)), h .1, h .2)
+      (e, w, before-nth t (r .1), residence-elim t e (and-left (keepsResidence t e) (holds t e c) (r .2)), holds-elim s w c (and-right (keepsResidence t e) (holds t e c) (r .2)))

@@ -1,13 +1,16 @@
 -- The number of a placement, and that the placements stand in 01's order: the smaller number is earlier. Assumes nothing.
-use mathlib.Core.Path.{_≡_, refl, ap, ap₂, _∙_}
+use mathlib.Core.Path.{_≡_, refl, sym, ap, ap₂, subst, _∙_}
 use mathlib.Core.Logic.{_↔_}
 use mathlib.Core.List.{List, [], _∷_}
 use Prim.Native.Nat.{ℕ, zero, suc, _+_, _*_, _/_, _%_, _^_, _≤_, _<_}
 use native.Mathlib.Omega.{arith}
 use native.Mathlib.Nat.{pow-zero, pow-suc, mul-zero, mul-comm, one-le-pow, mod-lt, mod-eq-of-lt, div-eq-of-lt, div-add-mod', div-lt-iff-lt-mul, mul-le-mul-right, mul-add-div-right, mul-add-mod-self-right, suc-mul}
 use native.Mathlib.Decide.{decLt}
+use lib.Dec.{T}
 use lib.ListN.{length, getD}
-use Rattle.goal.specs.Order.{Earlier, placementAt}
+use Rattle.rules.specs.Placement.{placed}
+use Rattle.rules.proofs.Placed.{placed-at, placed-is}
+use Rattle.goal.specs.Order.{EarlierThan, Earlier, placementAt}
 
 -- the number whose digits to the base m are q, the most significant first
 unfoldable pub placementNumber : ℕ → List ℕ → ℕ
@@ -85,7 +88,9 @@ unfolding placementNumber
 same-first m {a} {b} e q l h = let same = ap₂ (λ (x k : ℕ). x * m ^ k) h l in (λ k. omega arith, λ k. omega arith)
 
 pub earlier-smaller : {m : ℕ} {e q : List ℕ} → length e ≡ length q → Digits m e → Earlier e q → placementNumber m e < placementNumber m q
-earlier-smaller {m} {e} {q} l d w = go e q l d (w .task) (w .same) (w .lower)
+earlier-smaller {m} {e} {q} l d f =
+    let w = f .than in
+    go e q l d (w .task) (λ j h. sym (placed-is q j (getD e j 0) (w .same j h) .1)) (omega (arith, w .lower, placed-is q (w .task) (w .processor) (w .stands) .1))
   where
     go : (e q : List ℕ) → length e ≡ length q → Digits m e → (k : ℕ) → ((j : ℕ) → j < k → getD e j 0 ≡ getD q j 0) → getD e k 0 < getD q k 0 → placementNumber m e < placementNumber m q
     go [] [] l d k same lower = absurd (omega arith)
@@ -96,14 +101,21 @@ earlier-smaller {m} {e} {q} l d w = go e q l d (w .task) (w .same) (w .lower)
         same-first m e q (omega arith) (same 0 (omega arith)) .0 (go e q (omega arith) (later-digits m a e d) k (λ j h. same (suc j) (omega arith)) lower)
 
 earlier-head : {a b : ℕ} {e q : List ℕ} → a < b → Earlier (a ∷ e) (b ∷ q)
-earlier-head l = record { task = 0; same = λ j h. absurd (omega arith); lower = l }
+earlier-head {b = b} {q = q} l = record { than = record { task = 0; same = λ j h. absurd (omega arith); processor = b; stands = placed-at (b ∷ q) 0 (omega arith); lower = l } }
 
 earlier-tail : {a b : ℕ} {e q : List ℕ} → a ≡ b → Earlier e q → Earlier (a ∷ e) (b ∷ q)
-earlier-tail {a} {b} {e} {q} h w = record { task = suc (w .task); same = same; lower = w .lower }
+earlier-tail {a} {b} {e} {q} h f =
+    record { than = record { task = suc (w .task); same = same; processor = w .processor; stands = behind (w .task) (w .processor) (w .stands); lower = w .lower } }
   where
-    same : (j : ℕ) → j < suc (w .task) → getD (a ∷ e) j 0 ≡ getD (b ∷ q) j 0
-    same zero l = h
-    same (suc j) l = w .same j (omega arith)
+    w : EarlierThan (placed q) e
+    w = f .than
+
+    behind : (k p : ℕ) → T (placed q k p) → T (placed (b ∷ q) (suc k) p)
+    behind k p u = let r = placed-is q k p u in subst (λ (x : ℕ). T (placed (b ∷ q) (suc k) x)) (r .1) (placed-at (b ∷ q) (suc k) (omega (arith, r .0)))
+
+    same : (j : ℕ) → j < suc (w .task) → T (placed (b ∷ q) j (getD (a ∷ e) j 0))
+    same zero l = subst (λ (x : ℕ). T (placed (b ∷ q) 0 x)) (sym h) (placed-at (b ∷ q) 0 (omega arith))
+    same (suc j) l = behind j (getD e j 0) (w .same j (omega arith))
 
 by-number : (m : ℕ) (e q : List ℕ) → length e ≡ length q → Digits m q → placementNumber m e < placementNumber m q → Earlier e q
 unfolding placementNumber

@@ -6,7 +6,7 @@ use Prim.Native.Nat.{ℕ, _^_, _<_}
 use lib.Dec.{T, eqb, ltb}
 use lib.ListN.{length, getD}
 use Rattle.finite.specs.Finite.{someBelow, firstBelow}
-use Rattle.mask.specs.Mask.{within}
+use Rattle.mask.specs.Mask.{has, within}
 use Rattle.table.specs.declared.Table.{Table}
 use Rattle.conflict.specs.Conflict.{Minimal}
 use Rattle.timing.specs.Timing.{tasksIn}
@@ -48,13 +48,27 @@ isKept (Broken rule k) = false
 unfoldable pub keepsRules : Table → List ℕ → Bool
 keepsRules t q = isKept (firstBroken t (placed q) (λ k. false))
 
--- every task of q is in its residence
+-- every task of q is in its residence, as a statement and as a test
+abbrev pub Resides : Table → List ℕ → Type 0
+Resides t q = (k : ℕ) → k < t .tasks .count → T (residenceBroken t (placed q) k) → ⊥
+
 unfoldable pub keepsResidence : Table → List ℕ → Bool
 keepsResidence t q = not (someBelow (t .tasks .count) (residenceBroken t (placed q)))
 
--- all tasks of the conflict c stand on one processor
+-- all tasks of the conflict c stand on p
+abbrev pub AllOn : List ℕ → ℕ → ℕ → Type 0
+AllOn q c p = (k : ℕ) → T (has c k) → T (placed q k p)
+
+-- they stand on one processor of the table, as a statement and as a test
+abbrev pub OnOne : Table → List ℕ → ℕ → Type 0
+OnOne t q c = (p : ℕ) × (p < t .processors .count) × AllOn q c p
+
 unfoldable pub holds : Table → List ℕ → ℕ → Bool
 holds t q c = someBelow (t .processors .count) (λ p. within c (getD (setsOf q) p 0))
+
+-- q holds a listed conflict: all tasks of one stand on one processor
+abbrev pub HoldsListed : Table → List ℕ → List ℕ → Type 0
+HoldsListed t cs q = (j : ℕ) × (j < length cs) × OnOne t q (getD cs j 0)
 
 -- q keeps the placement rules and holds no listed conflict
 unfoldable pub uncovered : Table → List ℕ → List ℕ → Bool

@@ -1,3 +1,2 @@
 pub mod Limits
-pub mod InTime
-pub mod Cases
+pub mod Meaning

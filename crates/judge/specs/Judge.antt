@@ -1,6 +1,6 @@
 -- The judgement on a file and a placement (01, "Judging a placement"; "Refused input" for 1 to 11, 13 and 14).
 use mathlib.Core.Path.{_≡_}
-use mathlib.Core.Bool.{cond}
+use mathlib.Core.Bool.{Bool, cond}
 use mathlib.Core.List.{List}
 use Prim.Native.Nat.{ℕ, _<_}
 use lib.Dec.{leb, ltb, eqb}
@@ -34,9 +34,13 @@ pub record PlacementOf (t : Table) (q : List ℕ) : Type 0 where
 unfoldable pub firstUnknown : ℕ → List ℕ → ℕ
 firstUnknown m q = firstBelow (length q) (λ k. leb m (getD q k 0))
 
+-- task j stands on the processor of task k
+abbrev pub alongside : List ℕ → ℕ → ℕ → Bool
+alongside q k j = placed q j (getD q k 0)
+
 -- the response of task k among the tasks that stand on its processor
 abbrev pub responseOf : Tasks → List ℕ → ℕ → ℕ
-responseOf s q k = response s (λ j. placed q j (getD q k 0)) k
+responseOf s q k = response s (alongside q k) k
 
 -- 01: n responses, one for each task; places beyond n hold 0
 unfoldable pub responsesOf : Table → List ℕ → List ℕ

@@ -1,3 +1,4 @@
 pub mod Judge
 pub mod Arrays
 pub mod Good
+pub mod Meaning

@@ -31,7 +31,7 @@ use Rattle.partial.specs.Partial.{Fits}
 use Rattle.ledger.specs.Ledger.{Covered, Bad}
 use Rattle.ledger.proofs.Growth.{covered-more, covered-yes, covered-no}
 use Rattle.region.specs.Region.{Within, Refuted}
-use Rattle.region.proofs.Filling.{placed-is}
+use Rattle.rules.proofs.Placed.{placed-is}
 use Rattle.offer.specs.Offer.{Fair}
 
 module _ {t : Table} {s : State} {B : (ℕ → Bool) → Type 0} {q : List ℕ} (w : Fair t s B q) where

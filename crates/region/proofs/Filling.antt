@@ -20,15 +20,9 @@ use Rattle.table.proofs.Columns.{column-length, column-in}
 use Rattle.rules.specs.Placement.{placed, Part}
 use Rattle.rules.specs.Rules.{residenceBroken}
 use Rattle.rules.specs.Sets.{standing}
+use Rattle.rules.proofs.Placed.{placed-at, placed-is}
 use Rattle.judge.specs.Judge.{PlacementOf}
 use Rattle.partial.specs.Partial.{Whole}
-
--- task k of q stands on the processor that its byte names, and on no other
-pub placed-at : (q : List ℕ) (k : ℕ) → k < length q → T (placed q k (getD q k 0))
-placed-at q k l = and-both (ltb k (length q)) (eqb (getD q k 0) (getD q k 0)) (lt→ltb k (length q) l) (eqb-refl (getD q k 0))
-
-pub placed-is : (q : List ℕ) (k p : ℕ) → T (placed q k p) → (k < length q) × (getD q k 0 ≡ p)
-placed-is q k p u = (ltb→lt k (length q) (and-left (ltb k (length q)) (eqb (getD q k 0) p) u), eqb→eq _ _ (and-right (ltb k (length q)) (eqb (getD q k 0) p) u))
 
 -- where a task of a whole placement that holds `on` may stand
 pub data Home (t : Table) (on : ℕ → ℕ → Bool) (k p : ℕ) : Type 0 where

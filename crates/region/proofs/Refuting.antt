@@ -21,7 +21,8 @@ use Rattle.partial.specs.declared.State.{State}
 use Rattle.partial.specs.Partial.{Partial, Fits}
 use Rattle.partial.proofs.Whole.{fits-whole}
 use Rattle.region.specs.Region.{Within, Refuted, Met, Witness}
-use Rattle.region.proofs.Filling.{placed-at, filled, filled-placement, filled-part, filled-resides}
+use Rattle.rules.proofs.Placed.{placed-at}
+use Rattle.region.proofs.Filling.{filled, filled-placement, filled-part, filled-resides}
 
 module _ (on : ℕ → ℕ → Bool) (k p : ℕ) where
   -- what holds of the placement with task k on p too: k stands there, and all others where they stood

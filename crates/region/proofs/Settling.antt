@@ -21,10 +21,12 @@ use Rattle.judge.specs.Judge.{PlacementOf}
 use Rattle.timing.proofs.Limits.{valid-tasks, constrained-tasks}
 use Rattle.ledger.specs.Ledger.{Covered, Ledger, Grows, Clear}
 use Rattle.partial.specs.Partial.{Partial}
-use Rattle.region.specs.Region.{Within, Refuted, Met, Witness, Uncovered, Marked, Settled, Sooner}
+use Rattle.goal.specs.Order.{EarlierThan}
+use Rattle.region.specs.Region.{Within, Refuted, Met, Witness, Uncovered, Marked, Settled}
 use Rattle.ledger.proofs.Growth.{grows-refl, grows-trans, grows-map, covered-grows, covered-back}
 use Rattle.ledger.proofs.Verdicts.{clear-uncovered}
-use Rattle.region.proofs.Filling.{placed-at, placed-is, whole-placement}
+use Rattle.rules.proofs.Placed.{placed-at, placed-is}
+use Rattle.region.proofs.Filling.{whole-placement}
 use Rattle.region.proofs.Refuting.{and-there, and-part, and-within, met-map}
 
 -- the same placement, in a larger region
@@ -178,11 +180,11 @@ module _ {t : Table} {places : ℕ} (on : ℕ → ℕ → Bool) {k : ℕ} where
           go (yes d) = inl (w, d)
           go (no d) = inr (widen on k p v task w (omega arith))
 
-  -- it is taken on p: what is sooner has it on a lower processor, or on p and is sooner in the rest
+  -- it is taken on p: what is earlier has it on a lower processor, or on p and is earlier in the rest
   pub first-step : {p : ℕ} {sets a b c : List ℕ} {i j l : ℕ} {x y z : Bool}
       → ((j : ℕ) → j < k → (r : ℕ) × T (on j r)) → Part (andTask on k p) (standing sets) → Partial t sets
-      → Settled t places (λ e. Within on e × (getD e k 0 < p)) a i x b j y → Settled t places (λ e. Within (andTask on k p) e × Sooner sets e) b j y c l z
-      → k < t .tasks .count → Settled t places (λ e. Within on e × Sooner sets e) a i x c l z
+      → Settled t places (λ e. Within on e × (getD e k 0 < p)) a i x b j y → Settled t places (λ e. Within (andTask on k p) e × EarlierThan (standing sets) e) b j y c l z
+      → k < t .tasks .count → Settled t places (λ e. Within on e × EarlierThan (standing sets) e) a i x c l z
   first-step {p} {sets} placed-below part all s r task = settled-region forth back (settled-then s r)
     where
       here : T (standing sets k p)
@@ -194,19 +196,19 @@ module _ {t : Table} {places : ℕ} (on : ℕ → ℕ → Bool) {k : ℕ} where
           let r = placed-below j l in
           rw (placed-is e j (r .0) (w j (r .0) (r .1)) .1) (part j (r .0) (and-part on k p j (r .0) (r .1)))
 
-      forth : (e : List ℕ) → PlacementOf t e → (Within on e × (getD e k 0 < p)) ⊎ (Within (andTask on k p) e × Sooner sets e) → Within on e × Sooner sets e
+      forth : (e : List ℕ) → PlacementOf t e → (Within on e × (getD e k 0 < p)) ⊎ (Within (andTask on k p) e × EarlierThan (standing sets) e) → Within on e × EarlierThan (standing sets) e
       forth e v (inl (w, l)) = (w, record { task = k; same = below e w; processor = p; stands = here; lower = l })
       forth e v (inr (w, f)) = (narrow on k p e w .0, f)
 
-      back : (e : List ℕ) → PlacementOf t e → Within on e × Sooner sets e → (Within on e × (getD e k 0 < p)) ⊎ (Within (andTask on k p) e × Sooner sets e)
+      back : (e : List ℕ) → PlacementOf t e → Within on e × EarlierThan (standing sets) e → (Within on e × (getD e k 0 < p)) ⊎ (Within (andTask on k p) e × EarlierThan (standing sets) e)
       back e v (w, f) = go (decLt (f .task) k) (ℕ-discrete (f .task) k)
         where
-          go : Dec (f .task < k) → Dec (f .task ≡ k) → (Within on e × (getD e k 0 < p)) ⊎ (Within (andTask on k p) e × Sooner sets e)
+          go : Dec (f .task < k) → Dec (f .task ≡ k) → (Within on e × (getD e k 0 < p)) ⊎ (Within (andTask on k p) e × EarlierThan (standing sets) e)
           go (yes l) _ = absurd (omega (arith, f .lower, all .once (f .task) (getD e (f .task) 0) (f .processor) (below e w (f .task) l) (f .stands)))
           go (no _) (yes d) = inl (w, omega (arith, all .once k (f .processor) p (rw d at (f .stands)) here, rw d at (f .lower)))
           go (no l) (no d) = inr (widen on k p v task w (all .once k (getD e k 0) p (f .same k (omega arith)) here), f)
 
--- all tasks are placed: of the placements that have them there, none is sooner
+-- all tasks are placed: of the placements that have them there, none is earlier
 pub first-end : {t : Table} {places : ℕ} {sets a b : List ℕ} {i j : ℕ} {x y : Bool}
-    → Settled t places (λ q. ⊥) a i x b j y → Settled t places (λ e. Within (standing sets) e × Sooner sets e) a i x b j y
+    → Settled t places (λ q. ⊥) a i x b j y → Settled t places (λ e. Within (standing sets) e × EarlierThan (standing sets) e) a i x b j y
 first-end = settled-region (λ q w none. absurd none) (λ e w (u, f). omega (arith, f .lower, placed-is e (f .task) (f .processor) (u (f .task) (f .processor) (f .stands)) .1))

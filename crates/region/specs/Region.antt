@@ -61,11 +61,3 @@ pub record Settled (t : Table) (places : ℕ) (P : List ℕ → Type 0) (old : L
   pub ledger : Ledger (tasksIn t) places new count
   pub grows : Grows (Met t P) old before new count
   pub mark : Marked t places P cut-before new count cut
-
--- 01: e is earlier than the placement with these sets: it has the lower processor at the first task in which they differ
-pub record Sooner (sets e : List ℕ) : Type 0 where
-  pub task : ℕ
-  pub same : (j : ℕ) → j < task → T (standing sets j (getD e j 0))
-  pub processor : ℕ
-  pub stands : T (standing sets task processor)
-  pub lower : getD e task 0 < processor

@@ -6,3 +6,4 @@ pub mod Bounds
 pub mod SetsLoop
 pub mod Sets
 pub mod SumLoop
+pub mod Placed

@@ -1,13 +1,13 @@
 -- The first broken rule: what its definition finds, and what a placement without one keeps. Assumes nothing.
-use mathlib.Core.Path.{_≡_, refl, sym, ap, subst, _∙_}
+use mathlib.Core.Path.{_≡_, refl, sym, ap, ap₂, subst, _∙_}
 use mathlib.Core.Bool.{Bool, cond}
 use Prim.Native.Nat.{ℕ, suc, _≤_, _<_}
 use native.Mathlib.Omega.{arith}
-use native.Mathlib.Decide.{ℕ-discrete}
+use native.Mathlib.Decide.{ℕ-discrete, decLt}
 use borrow.Author.Tests.{lt-ltb, le-ltb}
 use lib.Dec.{T, eqb}
 use Rattle.finite.specs.Finite.{firstBelow}
-use Rattle.finite.proofs.Search.{FirstBelow, first-below, lowest, nowhere}
+use Rattle.finite.proofs.Search.{FirstBelow, first-below, lowest, nowhere, lowest-same}
 use Rattle.table.specs.declared.Table.{Table}
 use Rattle.rules.specs.declared.Rule.{Rule}
 use Rattle.rules.specs.declared.Rule.the-variants.{Residence, CoResidence, Exclusion, Memory, Utilisation, Network, Deadline}
@@ -36,10 +36,10 @@ rule-of-number Utilisation = refl
 rule-of-number Network = refl
 rule-of-number Deadline = refl
 
-same-rule : (r s : Rule) → ruleNumber r ≡ ruleNumber s → r ≡ s
+pub same-rule : (r s : Rule) → ruleNumber r ≡ ruleNumber s → r ≡ s
 same-rule r s e = sym (rule-of-number r) ∙ ap ruleOf e ∙ rule-of-number s
 
-numbers : (r : Rule) → (101 ≤ ruleNumber r) × (ruleNumber r ≤ 107)
+pub numbers : (r : Rule) → (101 ≤ ruleNumber r) × (ruleNumber r ≤ 107)
 numbers Residence = omega arith
 numbers CoResidence = omega arith
 numbers Exclusion = omega arith
@@ -143,13 +143,18 @@ module _ (t : Table) (on : ℕ → ℕ → Bool) (late : ℕ → Bool) where
       go (none f) = refl
       go (one {r = r} {k = j} w) = absurd (of-keeps k d r j (w .within) (w .breaks))
 
-  pub deadline-broken : {k : ℕ} → firstBroken t on late ≡ Broken Deadline k → Keeps t on × BrokenFirst t on late 101 Deadline k
-  deadline-broken {k} e = go first-broken e
+  -- only one rule is broken first, and at one number
+  pub broken-first : {r : Rule} {k : ℕ} → BrokenFirst t on late 101 r k → firstBroken t on late ≡ Broken r k
+  broken-first {r} {k} w = go first-broken
     where
-      go : {c : Check} → Finds t on late 101 c → c ≡ Broken Deadline k → Keeps t on × BrokenFirst t on late 101 Deadline k
-      go (none f) e = absurd (let z : _≡_ {A = ℕ} 0 1 = cc in omega arith)
-      go (one {r = r} {k = j} w) e =
-          let same : r ≡ Deadline = cc in
-          let at : j ≡ k = cc in
-          let v = subst (λ (s : Rule). BrokenFirst t on late 101 s k) same (subst (BrokenFirst t on late 101 r) at w) in
-          (keeps-of (λ s l. v .earlier s (numbers s .0) l), v)
+      go : {c : Check} → Finds t on late 101 c → c ≡ Broken r k
+      go (none f) = absurd (f r (numbers r .0) k (w .within) (w .breaks))
+      go (one {r = s} {k = j} v) = let u = subst (λ (x : Rule). BrokenFirst t on late 101 x j) rule v in ap₂ Broken rule (lowest-same (λ i. T (broken t on late r i)) (u .breaks) (u .least) (w .breaks) (w .least))
+        where
+          pick : Dec (ruleNumber s < ruleNumber r) → Dec (ruleNumber r < ruleNumber s) → ruleNumber s ≡ ruleNumber r
+          pick (yes l) d = absurd (w .earlier s (numbers s .0) l j (v .within) (v .breaks))
+          pick (no l) (yes m) = absurd (v .earlier r (numbers r .0) m k (w .within) (w .breaks))
+          pick (no l) (no m) = omega arith
+
+          rule : s ≡ r
+          rule = same-rule s r (pick (decLt (ruleNumber s) (ruleNumber r)) (decLt (ruleNumber r) (ruleNumber s)))

@@ -5,7 +5,8 @@ use mathlib.Core.List.{List}
 use Prim.Native.Nat.{ℕ}
 use Rattle.table.specs.declared.Table.{Table}
 use Rattle.partial.specs.declared.Sizes.{Sizes}
-use Rattle.region.specs.Region.{Witness, Settled, Sooner}
+use Rattle.goal.specs.Order.{EarlierThan}
+use Rattle.region.specs.Region.{Witness, Settled}
 use Rattle.first.specs.First.{InTime}
 use Rattle.run.specs.declared.Ran.{Ran}
 
@@ -17,7 +18,7 @@ pub record SizesOf (t : Table) (r : Sizes) : Type 0 where
 
 -- the first good placement of all and every earlier one settled; or all placements settled
 abbrev pub RunsAs : Bool → Table → ℕ → List ℕ → List ℕ → Ran → Type 0
-RunsAs true t places old new r = Witness t (InTime t) (λ k p. false) (r .on) × Settled t places (Sooner (r .on)) old 0 false new (r .count) (r .cut)
+RunsAs true t places old new r = Witness t (InTime t) (λ k p. false) (r .on) × Settled t places (EarlierThan (standing (r .on))) old 0 false new (r .count) (r .cut)
 RunsAs false t places old new r = Settled t places (λ e. Unit {0}) old 0 false new (r .count) (r .cut)
 
 abbrev pub RanAs : Table → ℕ → List ℕ → List ℕ → Ran → Type 0

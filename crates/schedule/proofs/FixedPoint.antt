@@ -7,7 +7,7 @@ use native.Mathlib.Decide.{ℕ-discrete}
 use lib.Dec.{T, eqb, eqb→eq, eqb-refl}
 use Rattle.finite.specs.Finite.{firstFrom}
 use Rattle.finite.proofs.First.{First, first, found, missing}
-use Rattle.schedule.specs.Response.{leastSolution}
+use Rattle.schedule.specs.Response.{leastSolution, Least, solved, unsolved}
 
 -- x is on the way to the least solution: at most f x, and at most each z with f z ≤ z
 pub record Iterate (f : ℕ → ℕ) (x : ℕ) : Type 0 where
@@ -29,11 +29,6 @@ module _ (f : ℕ → ℕ) (rises : (x y : ℕ) → x ≤ y → f x ≤ f y) whe
           pick : Dec (f x ≡ x) → (z ≤ f x + fuel → (y : ℕ) × (f y ≡ y) × (y ≤ z) × ((v : ℕ) → f v ≤ v → y ≤ v)) → (y : ℕ) × (f y ≡ y) × (y ≤ z) × ((v : ℕ) → f v ≤ v → y ≤ v)
           pick (yes e) rest = (x, e, o .below z h, o .below)
           pick (no e) rest = rest (omega (arith, o .grows))
-
--- r is the least solution, if one is at most d; otherwise r is 0
-pub data Least (f : ℕ → ℕ) (d r : ℕ) : Type 0 where
-  solved : 0 < r → r ≤ d → f r ≡ r → ((v : ℕ) → f v ≤ v → r ≤ v) → Least f d r
-  unsolved : r ≡ 0 → ((v : ℕ) → f v ≤ v → d < v) → Least f d r
 
 pub least-unique : (f : ℕ → ℕ) (d r s : ℕ) → Least f d r → Least f d s → r ≡ s
 least-unique f d r s (solved p l e h) (solved q m g k) = omega (arith, h s (omega arith), k r (omega arith))

@@ -1,5 +1,6 @@
 -- Periodic tasks, released together: the tick run and the response equation agree. Assumes nothing.
 --     first-job-ends  the response is the end of the task's first job
+--     late-task       deadline of at most the period: a task of the set has a late job exactly if its response is 0
 --     late-set        deadlines of at most the period: the set is late exactly if a member has response 0
 --     late-test       so a test tells whether a set is late
 --     late?           and it is decided
@@ -16,13 +17,13 @@ use Rattle.finite.specs.Finite.{only, sumTo}
 use Rattle.finite.proofs.Sum.{sum-le, sum-ext}
 use Rattle.finite.proofs.Some.{some-intro, some-elim}
 use Rattle.schedule.specs.Run.{service}
-use Rattle.schedule.specs.Periodic.{Tasks, Valid, Constrained, run, LateJob, LateSet}
-use Rattle.schedule.specs.Response.{ceil, share, demand, response, lateTest}
+use Rattle.schedule.specs.Periodic.{Tasks, Valid, Constrained, run, LateJob, LateTask, LateSet}
+use Rattle.schedule.specs.Response.{ceil, share, demand, response, Least, solved, unsolved, lateTest}
 use Rattle.schedule.specs.Arrays.{Says}
 use Rattle.mask.proofs.Tests.{and-both, and-left, and-right}
 use Rattle.schedule.proofs.Only.{only-and, only-in, only-le, only-none}
 use Rattle.schedule.proofs.Ceil.{any-window, ceil-covers, ceil-even, ceil-le, ceil-mono, ceil-odd, ceil-suc, ceil-zero}
-use Rattle.schedule.proofs.FixedPoint.{Least, least-solution, solved, unsolved}
+use Rattle.schedule.proofs.FixedPoint.{least-solution}
 use Rattle.schedule.proofs.TaskRun.{released, taskService}
 use Rattle.schedule.proofs.LevelLemma.{higherWork, released-stream, sumHigher}
 use Rattle.schedule.proofs.JobService.{behind-late, job-service, late-behind}
@@ -99,7 +100,7 @@ module _ (s : Tasks) (valid : Valid s) (on : ℕ → Bool) where
   unfolding demand
   demand-works i x l = omega (arith, valid .works i l)
 
-  response-least : (i : ℕ) → i < s .count → Least (demand s on i) (s .D i) (response s on i)
+  pub response-least : (i : ℕ) → i < s .count → Least (demand s on i) (s .D i) (response s on i)
   unfolding response
   response-least i l = least-solution (demand s on i) (demand-rises i) (λ x. demand-works i x l) (s .D i)
 
@@ -150,6 +151,9 @@ module _ (s : Tasks) (valid : Valid s) (on : ℕ → Bool) where
             let x = service-needs (run s on) (valid .distinct) i task (s .C i) (s .D i) (omega arith) in
             absurd (omega (arith, x .1, h (x .0) (omega (arith, x .2, shares-run i (x .0)))))
 
+    pub late-task : LateTask s on i ↔ (response s on i ≡ 0)
+    late-task = (λ q. zero-unless (response s on i) (λ p. in-time-of-response p (q .0) (q .1)), λ z. (0, late-of-response z))
+
     -- the first job is finished before tick x exactly if x is at least the response
     pub first-job-ends : (x : ℕ) → 0 < response s on i → (s .C i ≤ service (run s on) x i 0) ↔ (response s on i ≤ x)
     unfolding demand sumTo
@@ -179,14 +183,14 @@ module _ (s : Tasks) (valid : Valid s) (on : ℕ → Bool) where
 
   -- it is late exactly if a member has no response
   pub late-set : Constrained s → LateSet s on ↔ ((i : ℕ) × (i < s .count) × T (on i) × (response s on i ≡ 0))
-  late-set short = (forth, λ e. record { task = e .0; tick = 0; late = late-of-response (e .0) (e .1) (e .2) (short (e .0) (e .1)) (e .3) })
+  late-set short = (forth, λ e. let l = late-task (e .0) (e .1) (e .2) (short (e .0) (e .1)) .1 (e .3) in record { task = e .0; tick = l .0; late = l .1 })
     where
       forth : LateSet s on → (i : ℕ) × (i < s .count) × T (on i) × (response s on i ≡ 0)
       forth q =
           let i = q .task in
           let l = q .late .task in
           let m : T (on i) = member-of (on i) (eqb (q .tick % s .T i) 0) (s .C i) (omega (arith, q .late .unfinished-at)) in
-          (i, l, m, zero-unless (response s on i) (λ p. in-time-of-response i l m (short i l) p (q .tick) (q .late)))
+          (i, l, m, late-task i l m (short i l) .0 (q .tick, q .late))
 
   -- so a test tells it
   pub late-test : Constrained s → T (lateTest s on) ↔ LateSet s on

@@ -12,4 +12,3 @@ pub mod SharesLoop
 pub mod Tabulate
 pub mod TasksOfArrays
 pub mod ResponseLoop
-pub mod Cases

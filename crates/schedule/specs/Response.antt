@@ -1,6 +1,7 @@
 -- The response of a task (01, "Response and run"). Assumes nothing.
+use mathlib.Core.Path.{_≡_}
 use mathlib.Core.Bool.{Bool, _&&_}
-use Prim.Native.Nat.{ℕ, _+_, _-_, _*_, _/_}
+use Prim.Native.Nat.{ℕ, _+_, _-_, _*_, _/_, _≤_, _<_}
 use lib.Dec.{ltb, eqb}
 use Rattle.finite.specs.Finite.{only, sumTo, someBelow, firstFrom}
 use Rattle.schedule.specs.Periodic.{Tasks}
@@ -20,6 +21,11 @@ demand s on i R = s .C i + sumTo (s .count) (share s on i R)
 -- the least solution of f x ≡ x from 1 to d; 0 if there is none
 unfoldable pub leastSolution : (ℕ → ℕ) → ℕ → ℕ
 leastSolution f d = firstFrom d (λ x. eqb (f x) x) 1
+
+-- the same as a statement: r is the least solution, and at most d; or r is 0, and every solution is above d. It says so of all v with f v ≤ v, solutions among them.
+pub data Least (f : ℕ → ℕ) (d r : ℕ) : Type 0 where
+  solved : 0 < r → r ≤ d → f r ≡ r → ((v : ℕ) → f v ≤ v → r ≤ v) → Least f d r
+  unsolved : r ≡ 0 → ((v : ℕ) → f v ≤ v → d < v) → Least f d r
 
 -- 01: the least solution is the response; 0 marks a task whose response is above D or that has none
 unfoldable pub response : Tasks → (ℕ → Bool) → ℕ → ℕ

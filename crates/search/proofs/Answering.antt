@@ -1,6 +1,6 @@
 -- From what the search has settled to what 01 asks of its answer. Assumes nothing.
 use mathlib.Core.Path.{_≡_, sym, subst, _∙_}
-use mathlib.Core.Logic.{_⊎_, ⊎-elim}
+use mathlib.Core.Logic.{⊎-elim}
 use mathlib.Core.Bool.{Bool, true, false, not}
 use mathlib.Core.List.{List}
 use Prim.Native.Nat.{ℕ, _≤_, _<_}
@@ -19,14 +19,14 @@ use Rattle.timing.specs.Timing.{tasksIn}
 use Rattle.judge.specs.Judge.{PlacementOf}
 use Rattle.judge.specs.Good.{Good}
 use Rattle.answer.specs.Answer.{maskAt}
-use Rattle.goal.specs.Order.{Earlier}
-use Rattle.goal.specs.Goal.{markOf, Listed}
+use Rattle.goal.specs.Order.{EarlierThan, Earlier}
+use Rattle.goal.specs.Goal.{HoldsListed, markOf, Listed}
 use Rattle.goal.proofs.First.{Before}
-use Rattle.goal.proofs.Mark.{HoldsListed, mark-complete, mark-cut, met-intro}
+use Rattle.goal.proofs.Mark.{on-one, mark-complete, mark-cut, met-intro}
 use Rattle.ledger.specs.Ledger.{masksIn, Covered}
 use Rattle.ledger.proofs.Masks.{masks-long, masks-get}
-use Rattle.region.specs.Region.{Witness, Marked, Settled, Sooner}
-use Rattle.region.proofs.Filling.{placed-at, placed-is}
+use Rattle.region.specs.Region.{Witness, Marked, Settled}
+use Rattle.rules.proofs.Placed.{placed-at, placed-is}
 use Rattle.first.specs.First.{InTime}
 
 -- a good placement, as the list of its processors
@@ -42,31 +42,13 @@ module _ {t : Table} {on : ℕ → ℕ → Bool} {sets q : List ℕ} (w : Witnes
     in-time = λ p l. w .clear p (subst (λ (f : ℕ → ℕ → Bool). LateSet (tasksIn t) (λ k. f k p)) (a .same) l);
   }
 
-module _ {t : Table} {sets q : List ℕ} (a : AsList t sets q) where
-  stands : (k p : ℕ) → T (placed q k p) → T (standing sets k p)
-  stands k p = subst (λ (f : ℕ → ℕ → Bool). T (f k p)) (a .same)
+-- earlier than the list is earlier than the sets
+module _ {t : Table} {sets q : List ℕ} (a : AsList t sets q) {e : List ℕ} where
+  pub earlier-sets : Earlier e q → EarlierThan (standing sets) e
+  earlier-sets x = subst (λ (f : ℕ → ℕ → Bool). EarlierThan f e) (a .same) (x .than)
 
-  pub earlier-sooner : {e : List ℕ} → Earlier e q → Sooner sets e
-  earlier-sooner {e} x = record {
-    task = x .task;
-    same = λ j l. subst (λ (p : ℕ). T (standing sets j p)) (sym (x .same j l)) (stands j (getD q j 0) (placed-at q j (omega (arith, inside))));
-    processor = getD q (x .task) 0;
-    stands = stands (x .task) (getD q (x .task) 0) (placed-at q (x .task) inside);
-    lower = x .lower;
-  }
-    where
-      go : Dec (x .task < length q) → x .task < length q
-      go (yes l) = l
-      go (no f) = absurd (omega (arith, x .lower, List·getD-eq-default q 0 {n = x .task} (omega arith)))
-
-      inside : x .task < length q
-      inside = go (decLt (x .task) (length q))
-
-  pub sooner-earlier : {e : List ℕ} → Sooner sets e → Earlier e q
-  sooner-earlier {e} x = record { task = x .task; same = λ j l. sym (at j (getD e j 0) (x .same j l)); lower = rw (at (x .task) (x .processor) (x .stands)) (x .lower) }
-    where
-      at : (j p : ℕ) → T (standing sets j p) → getD q j 0 ≡ p
-      at j p u = placed-is q j p (subst (λ (f : ℕ → ℕ → Bool). T (f j p)) (sym (a .same)) u) .1
+  pub sets-earlier : EarlierThan (standing sets) e → Earlier e q
+  sets-earlier x = record { than = subst (λ (f : ℕ → ℕ → Bool). EarlierThan f e) (sym (a .same)) x }
 
 -- the list of a settled region that is what 01 calls earlier
 module _ {t : Table} (h : Sound t) {P : List ℕ → Type 0} (forth : (e : List ℕ) → PlacementOf t e → P e → Before t e) (back : (e : List ℕ) → PlacementOf t e → Before t e → P e)
@@ -82,17 +64,17 @@ module _ {t : Table} (h : Sound t) {P : List ℕ → Type 0} (forth : (e : List 
     different = λ i j a b e. w .ledger .different i j (get i a .0) (get j b .0) (sym (get i a .1) ∙ e ∙ get j b .1);
     minimal = λ j l. subst (Minimal (tasksIn t)) (sym (get j l .1)) (w .ledger .minimal j (get j l .0));
     met = λ j l. let m = w .grows .added j (omega arith) (get j l .0) in
-        rw (get j l .1) (met-intro h (maskAt new j) (m .whole) (forth (m .placement) (m .whole) (m .inside)) (m .resides) (m .processor) (m .holds));
+        rw (get j l .1) (met-intro h (maskAt new j) (m .whole) (forth (m .placement) (m .whole) (m .inside)) (m .resides) (on-one h (m .whole) (maskAt new j) (m .processor) (m .holds)));
   }
 
-  holds-covered : (e : List ℕ) → HoldsListed cs e → (p : ℕ) × Covered new count (λ k. placed e k p)
-  holds-covered e x = (x .1, record { number = x .0; listed = get (x .0) (x .2) .0; inside = λ k u. x .3 k (rw (get (x .0) (x .2) .1) u) })
+  holds-covered : (e : List ℕ) → HoldsListed t cs e → (p : ℕ) × Covered new count (λ k. placed e k p)
+  holds-covered e x = (x .2 .0, record { number = x .0; listed = get (x .0) (x .1) .0; inside = λ k u. x .2 .2 k (rw (get (x .0) (x .1) .1) u) })
 
-  covered-holds : (e : List ℕ) (p : ℕ) → Covered new count (λ k. placed e k p) → HoldsListed cs e
-  covered-holds e p c = (c .number, p, rw (masks-long new count) (c .listed), λ k u. c .inside k (rw (masks-get new count (c .number) (c .listed)) at u))
+  covered-holds : {e : List ℕ} → PlacementOf t e → (p : ℕ) → Covered new count (λ k. placed e k p) → HoldsListed t cs e
+  covered-holds v p c = (c .number, rw (masks-long new count) (c .listed), on-one h v (getD cs (c .number) 0) p (λ k u. c .inside k (rw (masks-get new count (c .number) (c .listed)) at u)))
 
   marked : (b : Bool) → Marked t places P false new count b → markOf t cs ≡ not b
-  marked false m = mark-complete h cs (λ e v before keeps. let s = m .1 e v (back e v before) keeps in covered-holds e (s .0) (s .1))
+  marked false m = mark-complete h cs (λ e v before keeps. let s = m .1 e v (back e v before) keeps in covered-holds v (s .0) (s .1))
   marked true m = ⊎-elim (λ e. absurd (subst (λ (x : Bool). T (not x)) e tt))
       (λ u. mark-cut h cs (u .1 .whole) (forth (u .1 .placement) (u .1 .whole) (u .1 .inside)) (u .1 .keeps) (λ x. let s = holds-covered (u .1 .placement) x in u .1 .holds-none (s .0) (s .1))) m
 

@@ -25,20 +25,21 @@ use Rattle.ledger.specs.Ledger.{masksIn}
 use Rattle.ledger.proofs.Masks.{masks-long, listing-grown}
 use Rattle.partial.specs.Partial.{Whole}
 use Rattle.endpoints.specs.Endpoints.{Names}
-use Rattle.region.specs.Region.{Witness, Settled, Sooner}
-use Rattle.region.proofs.Filling.{placed-at, placed-is, whole-placement}
+use Rattle.region.specs.Region.{Witness, Settled}
+use Rattle.rules.proofs.Placed.{placed-at, placed-is}
+use Rattle.region.proofs.Filling.{whole-placement}
 use Rattle.search.specs.declared.Answer.the-variants.{Written}
 use Rattle.search.specs.Search.{Lists}
 use Rattle.first.specs.First.{InTime}
 use Rattle.run.specs.declared.Ran.{Ran}
 use Rattle.run.specs.Run.{RunsAs, RanAs}
 use Rattle.search.specs.Steps.{HeadBy}
-use Rattle.search.proofs.Answering.{AsList, witness-good, earlier-sooner, sooner-earlier, settled-listed, settled-mark, settled-room, settled-full}
+use Rattle.search.proofs.Answering.{AsList, witness-good, earlier-sets, sets-earlier, settled-listed, settled-mark, settled-room, settled-full}
 
 -- the first good placement is found, and q is the list of its processors
-module _ {t : Table} (h : Sound t) {places count : ℕ} {old new sets : List ℕ} {cut : Bool} (w : Witness t (InTime t) (λ k p. false) sets) (s : Settled t places (Sooner sets) old 0 false new count cut) where
+module _ {t : Table} (h : Sound t) {places count : ℕ} {old new sets : List ℕ} {cut : Bool} (w : Witness t (InTime t) (λ k p. false) sets) (s : Settled t places (EarlierThan (standing sets)) old 0 false new count cut) where
   earliest : {q : List ℕ} → AsList t sets q → (e : List ℕ) → PlacementOf t e → Earlier e q → Good t e → ⊥
-  earliest a e v x g = let l = s .refuted e v (earlier-sooner a x) (g .keeps) in g .in-time (l .0) (l .1)
+  earliest a e v x g = let l = s .refuted e v (earlier-sets a x) (g .keeps) in g .in-time (l .0) (l .1)
 
   found-headed : (q : List ℕ) → PlacementOf t q → placed q ≡ standing sets → headOf t ≡ foundHead q
   found-headed q v e = let a : AsList t sets q = record { placement = v; same = e } in found-head h (witness-good w a) (earliest a)
@@ -67,11 +68,11 @@ module _ {t : Table} (h : Sound t) (places : ℕ) (old new : List ℕ) (r : Ran)
       a : AsList t (r .on) (l .0)
       a = record { placement = l .1; same = l .2 }
 
-      forth : (e : List ℕ) → PlacementOf t e → Sooner (r .on) e → Before t e
-      forth e v x = earlier-before h (witness-good w a) (earliest h w s a) v (sooner-earlier a x)
+      forth : (e : List ℕ) → PlacementOf t e → EarlierThan (standing (r .on)) e → Before t e
+      forth e v x = earlier-before h (witness-good w a) (earliest h w s a) v (sets-earlier a x)
 
-      ahead : (e : List ℕ) → PlacementOf t e → Before t e → Sooner (r .on) e
-      ahead e v b = earlier-sooner a (before-earlier h (witness-good w a) (earliest h w s a) v b)
+      ahead : (e : List ℕ) → PlacementOf t e → Before t e → EarlierThan (standing (r .on)) e
+      ahead e v b = earlier-sets a (before-earlier h (witness-good w a) (earliest h w s a) v b)
   finals false s = record {
     listed = settled-listed h forth (λ e v b. tt) s;
     mark = settled-mark h forth (λ e v b. tt) s;

@@ -4,6 +4,7 @@ pub mod Columns
 pub mod Filling
 pub mod Fine
 pub mod Ended
+pub mod Causes
 pub mod Known
 pub mod Sound
 pub mod Records

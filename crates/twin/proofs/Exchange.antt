@@ -21,7 +21,7 @@ use Rattle.rules.specs.Rules.{residenceBroken, coResidenceBroken, exclusionBrok
 use Rattle.rules.proofs.Where.{apart-elim, apart-intro, together-elim, together-intro, pair-elim, pair-intro}
 use Rattle.judge.specs.Judge.{PlacementOf}
 use Rattle.partial.proofs.OneMore.{kept-le, le-kept}
-use Rattle.region.proofs.Filling.{placed-at, placed-is}
+use Rattle.rules.proofs.Placed.{placed-at, placed-is}
 
 -- ---- p and q exchanged
 

@@ -20,7 +20,7 @@ use Rattle.partial.specs.declared.State.{State}
 use Rattle.partial.specs.Partial.{Fits}
 use Rattle.partial.proofs.OneMore.{kept-le, work}
 use Rattle.region.specs.Region.{Within, Refuted}
-use Rattle.region.proofs.Filling.{placed-is}
+use Rattle.rules.proofs.Placed.{placed-is}
 use Rattle.region.proofs.Refuting.{and-there, and-part, and-within}
 use Rattle.twin.specs.Twin.{Alike, Interchangeable}
 use Rattle.twin.proofs.Exchange.{exchange, Exchanged, first, second, other, exchanged, exchange-back, exchange-low, renamed, renamed-placed, renamed-placement, keeps-renamed}

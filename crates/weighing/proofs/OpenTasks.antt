@@ -25,7 +25,7 @@ use Rattle.columns.proofs.Laws.{loads-get}
 use Rattle.partial.specs.declared.State.{State}
 use Rattle.partial.specs.Partial.{Fits}
 use Rattle.partial.proofs.OneMore.{kept-le}
-use Rattle.region.proofs.Filling.{placed-at, placed-is}
+use Rattle.rules.proofs.Placed.{placed-at, placed-is}
 use Rattle.packing.specs.Packing.{weightOf, joined}
 use Rattle.offer.specs.Offer.{Fair, Choice}
 use Rattle.offer.proofs.Fairness.{stands-or-open, not-both-there}
