@@ -130,7 +130,7 @@ module _ {t : Table} {places : ℕ} {s : State} {k : ℕ} {witness old : List �
   pub first-whole : Sound t → t .tasks .count ≤ k → (cut : Bool) → FirstOf t places s old before cut old (record { on = s .on; count = before; cut = cut })
   first-whole h l cut = record {
     good = record { part = λ j p u. u; whole = record { partial = w .fits .partial; somewhere = λ j a. w .fits .placed-task j a (w .placed-below j (omega arith)) }; keeps = w .fits .keeps; clear = in-time h w };
-    settled = first-end (settled-nothing (w .ledger));
+    settled = first-end (s .on) (settled-nothing (w .ledger));
   }
 
   module _ {cut marked : Bool} {p at : ℕ} {list : List ℕ} (x : Passing t places s k witness old before cut p list at marked) where

@@ -209,6 +209,6 @@ module _ {t : Table} {places : ℕ} (on : ℕ → ℕ → Bool) {k : ℕ} where
           go (no l) (no d) = inr (widen on k p v task w (all .once k (getD e k 0) p (f .same k (omega arith)) here), f)
 
 -- all tasks are placed: of the placements that have them there, none is earlier
-pub first-end : {t : Table} {places : ℕ} {sets a b : List ℕ} {i j : ℕ} {x y : Bool}
+pub first-end : {t : Table} {places : ℕ} (sets : List ℕ) {a b : List ℕ} {i j : ℕ} {x y : Bool}
     → Settled t places (λ q. ⊥) a i x b j y → Settled t places (λ e. Within (standing sets) e × EarlierThan (standing sets) e) a i x b j y
-first-end = settled-region (λ q w none. absurd none) (λ e w (u, f). omega (arith, f .lower, placed-is e (f .task) (f .processor) (u (f .task) (f .processor) (f .stands)) .1))
+first-end sets = settled-region (λ q w none. absurd none) (λ e w (u, f). omega (arith, f .lower, placed-is e (f .task) (f .processor) (u (f .task) (f .processor) (f .stands)) .1))
