@@ -1,13 +1,13 @@
 //! Compares a conflict check with the independent one.
 
 use crate::conflict::{conflict_code, minimal_part};
-
 use crate::file::encode;
 use crate::generate::faulty::all_meetings;
 use crate::generate::sets::{crowded_set, free_table, random_set};
 use crate::generate::tables::{Shape, table};
 use crate::model::Table;
 use crate::random::Random;
+use crate::schedule::late;
 
 /// The first input that is answered differently; codes as the C function returns them.
 #[derive(Debug)]
@@ -103,7 +103,7 @@ impl Comparison<'_> {
             masks.push(self.few_tasks(table));
             masks.push(self.random.draw() as u32 & all);
         }
-        let minimal = minimal_part(&table.tasks, all);
+        let minimal = minimal_part(all, &|set| late(&table.tasks, set));
         let with_another = minimal | 1 << self.random.below(table.tasks.len());
         masks.extend([minimal, with_another, minimal & minimal.wrapping_sub(1)]);
         masks.into_iter().try_for_each(|mask| self.check(&file, mask))
@@ -131,10 +131,10 @@ impl Comparison<'_> {
 #[cfg(test)]
 mod tests {
     use super::*;
-    use crate::generate::sets::load;
-    use crate::model::{Task, hyperperiod};
+    use crate::comparison::misreading::WRONG_LATENESS;
+    use crate::conflict::answer;
+    use crate::model::Task;
     use crate::reader::read;
-    use crate::schedule::{late, members};
 
     fn detected(what: &str, wrong: Check) {
         assert!(compare(7, 300, wrong).is_err(), "not detected: {what}");
@@ -174,34 +174,17 @@ mod tests {
             1 if !late(&table.tasks, mask & (mask - 1)) => 2,
             _ => answer,
         });
-        detected_answer("utilisation at most 1 taken as in time", &|table, mask, answer| {
-            let part: Vec<Task> = members(mask).map(|task| table.tasks[task]).collect();
-            if load(&part) <= hyperperiod(&part) { 0 } else { answer }
-        });
         detected_answer("pairs only are minimal", &|_, mask, answer| match answer {
             2 if mask.count_ones() > 2 => 1,
             _ => answer,
         });
     }
 
-    /// One more job of the other task where it is released at the very tick of the response.
-    fn late_with_release_at_response(table: &Table, set: u32) -> bool {
-        let response_exists = |own: usize| {
-            let own = &table.tasks[own];
-            let higher =
-                || members(set).map(|k| &table.tasks[k]).filter(|other| other.priority > own.priority);
-            let demand =
-                |time: u32| higher().map(|other| (time / other.period + 1) * other.execution).sum::<u32>();
-            (1..=own.deadline).any(|time| own.execution + demand(time) == time)
-        };
-        members(set).any(|task| !response_exists(task))
-    }
-
     #[test]
-    fn a_release_at_the_response_is_no_interference() {
-        detected_answer("release at R counted", &|table, mask, answer| {
-            if answer == 0 && late_with_release_at_response(table, mask) { 1 } else { answer }
-        });
+    fn wrong_lateness_is_detected() {
+        for (what, wrong) in WRONG_LATENESS {
+            detected_answer(what, &|table, mask, _| answer(mask, &|set| wrong(&table.tasks, set)));
+        }
     }
 
     #[test]
