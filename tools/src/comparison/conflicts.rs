@@ -2,7 +2,7 @@
 
 use crate::conflict::{conflict_code, minimal_part};
 use crate::file::encode;
-use crate::generate::faulty::all_meetings;
+use crate::generate::faulty::refused_file;
 use crate::generate::sets::{crowded_set, free_table, random_set};
 use crate::generate::tables::{Shape, table};
 use crate::model::Table;
@@ -121,9 +121,7 @@ impl Comparison<'_> {
         file[place] ^= 1 << self.random.below(8);
         let mask = self.random.draw() as u32 & 7;
         self.check(&file, mask)?;
-        let meetings = all_meetings();
-        let meeting = &meetings[self.random.below(meetings.len())];
-        let (refused, _) = meeting.file(&mut self.random);
+        let (refused, _) = refused_file(&mut self.random);
         self.check(&refused, mask)
     }
 }

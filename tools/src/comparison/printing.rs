@@ -188,7 +188,7 @@ mod tests {
     /// For all sorts but the lamps, whose conflicts are too many for the independent search.
     fn compared(program: Program) -> Compared {
         let quick = sorts().into_iter().filter(|&sort| sort != Sort::Lamps);
-        compare(30, quick.cycle().take(800), program)
+        compare(30, quick.cycle().take(1_000), program)
     }
 
     fn detected(what: &str, wrong: Program) -> Wrong {

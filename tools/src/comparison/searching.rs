@@ -3,7 +3,7 @@
 
 use crate::file::encode;
 use crate::generate::crowded::{medium_table, small_table};
-use crate::generate::faulty::all_meetings;
+use crate::generate::faulty::refused_file;
 use crate::model::{Cause, Refusal, Table};
 use crate::random::Random;
 use crate::reader::read;
@@ -101,11 +101,9 @@ struct Comparison<'a> {
 pub fn compare_small(seed: u64, tables: usize, candidate: Search) -> Result<Tally, Difference> {
     let mut random = Random::new(seed);
     let mut comparison = Comparison::new(seed, candidate);
-    let meetings = all_meetings();
     for _ in 0..tables {
         comparison.every_length(&small_table(&mut random))?;
-        let meeting = &meetings[random.below(meetings.len())];
-        let (unreadable, refusal) = meeting.file(&mut random);
+        let (unreadable, refusal) = refused_file(&mut random);
         comparison.refused(&unreadable, random.below(60), refusal)?;
     }
     Ok(comparison.tally)
