@@ -2,6 +2,8 @@
 //! the answering function as a parameter, so that wrong ones can show that they would be noticed.
 
 pub mod conflicts;
+pub mod explained;
+pub mod explaining;
 pub mod judging;
 pub mod listings;
 #[cfg(test)]

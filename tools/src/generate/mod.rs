@@ -6,5 +6,6 @@ pub mod faulty;
 pub mod files;
 pub mod lamps;
 pub mod loads;
+pub mod names;
 pub mod sets;
 pub mod tables;
