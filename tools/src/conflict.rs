@@ -1,8 +1,8 @@
-//! The conflict check: 0 no conflict, 1 late but not minimal, 2 minimal.
+//! The conflict check: 0 no conflict, 1 late but not minimal, 2 minimal. And the count of late sets.
 
 use crate::model::{Cause, Refusal};
 use crate::reader::read;
-use crate::schedule::{late, members};
+use crate::schedule::{is_late, late, members};
 
 /// What the tool's C function returns: a refusal's code, or the answer.
 pub fn conflict_code(file: &[u8], mask: u32) -> u64 {
@@ -23,6 +23,16 @@ pub fn answer(set: u32, is_late: &dyn Fn(u32) -> bool) -> u64 {
         true if minimal() => 2,
         true => 1,
     }
+}
+
+/// How many of the sets are late. A set with an unknown task is none of the table's, and a file that is refused
+/// has none.
+pub fn late_sets(file: &[u8], sets: &[u32]) -> u64 {
+    let Ok(table) = read(file) else {
+        return 0;
+    };
+    let own = sets.iter().filter(|&&set| set >> table.tasks.len() == 0);
+    own.filter(|&&set| is_late(&table.tasks, set)).count() as u64
 }
 
 /// Leaves out each task in turn while the rest stays late; the set itself if it is not late.

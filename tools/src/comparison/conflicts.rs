@@ -1,13 +1,10 @@
 //! Compares a conflict check with the independent one.
 
-use crate::conflict::{conflict_code, minimal_part};
+use crate::conflict::conflict_code;
 use crate::file::encode;
 use crate::generate::faulty::refused_file;
-use crate::generate::sets::{crowded_set, free_table, random_set};
-use crate::generate::tables::{Shape, table};
-use crate::model::Table;
+use crate::generate::masks::{masks, table_of_sets};
 use crate::random::Random;
-use crate::schedule::late;
 
 /// The first input that is answered differently; codes as the C function returns them.
 #[derive(Debug)]
@@ -57,10 +54,11 @@ struct Comparison<'a> {
 pub fn compare(seed: u64, files: usize, candidate: Check) -> Result<Tally, Difference> {
     let mut comparison = Comparison { candidate, random: Random::new(seed), tally: Tally::default() };
     for round in 0..files {
-        let table = comparison.random_table(round);
-        comparison.masks(&table)?;
+        let table = table_of_sets(&mut comparison.random, round);
+        let (file, masks) = (encode(&table), masks(&mut comparison.random, &table));
+        masks.into_iter().try_for_each(|mask| comparison.check(&file, mask))?;
         if round.is_multiple_of(8) {
-            comparison.damaged(&table)?;
+            comparison.damaged(file)?;
         }
     }
     Ok(comparison.tally)
@@ -77,46 +75,8 @@ impl Comparison<'_> {
         Ok(())
     }
 
-    /// Mostly tables in which some of the sets are late; now and then one at the limits of a file,
-    /// where the equation can take a million rounds.
-    fn random_table(&mut self, round: usize) -> Table {
-        let random = &mut self.random;
-        if round % 1000 == 999 {
-            let shape = Shape::random(random);
-            return table(random, shape);
-        }
-        let tasks = match random.below(2) {
-            0 => random_set(random),
-            _ => {
-                let (count, crowd) = (2 + random.below(23), random.within(2, 8));
-                crowded_set(random, count, crowd)
-            }
-        };
-        free_table(tasks, 1)
-    }
-
-    fn masks(&mut self, table: &Table) -> Result<(), Difference> {
-        let file = encode(table);
-        let all = (1 << table.tasks.len()) - 1;
-        let mut masks = vec![0, 1, all, all + 1, all | 1 << 31, u32::MAX];
-        for _ in 0..8 {
-            masks.push(self.few_tasks(table));
-            masks.push(self.random.draw() as u32 & all);
-        }
-        let minimal = minimal_part(all, &|set| late(&table.tasks, set));
-        let with_another = minimal | 1 << self.random.below(table.tasks.len());
-        masks.extend([minimal, with_another, minimal & minimal.wrapping_sub(1)]);
-        masks.into_iter().try_for_each(|mask| self.check(&file, mask))
-    }
-
-    fn few_tasks(&mut self, table: &Table) -> u32 {
-        let count = 2 + self.random.below(3);
-        (0..count).fold(0, |mask, _| mask | 1 << self.random.below(table.tasks.len()))
-    }
-
     /// A refusal of the file comes before one of the mask.
-    fn damaged(&mut self, table: &Table) -> Result<(), Difference> {
-        let mut file = encode(table);
+    fn damaged(&mut self, mut file: Vec<u8>) -> Result<(), Difference> {
         let place = self.random.below(file.len());
         file[place] ^= 1 << self.random.below(8);
         let mask = self.random.draw() as u32 & 7;
@@ -131,8 +91,9 @@ mod tests {
     use super::*;
     use crate::comparison::misreading::WRONG_LATENESS;
     use crate::conflict::answer;
-    use crate::model::Task;
+    use crate::model::{Table, Task};
     use crate::reader::read;
+    use crate::schedule::late;
 
     fn detected(what: &str, wrong: Check) {
         assert!(compare(7, 300, wrong).is_err(), "not detected: {what}");

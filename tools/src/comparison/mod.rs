@@ -5,6 +5,7 @@ pub mod conflicts;
 pub mod explained;
 pub mod explaining;
 pub mod judging;
+pub mod lateness;
 pub mod listings;
 #[cfg(test)]
 mod misreading;
