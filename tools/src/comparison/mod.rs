@@ -11,4 +11,5 @@ pub mod listings;
 mod misreading;
 pub mod printing;
 pub mod reading;
+pub mod responses;
 pub mod searching;
