@@ -1,8 +1,8 @@
-//! The conflict check: 0 no conflict, 1 late but not minimal, 2 minimal.
+//! The conflict check: 0 no conflict, 1 late but not minimal, 2 minimal. And the count of late sets.
 
-use crate::model::{Cause, Refusal, Table, Task};
+use crate::model::{Cause, Refusal};
 use crate::reader::read;
-use crate::schedule::{late, members};
+use crate::schedule::{is_late, late, members};
 
 /// What the tool's C function returns: a refusal's code, or the answer.
 pub fn conflict_code(file: &[u8], mask: u32) -> u64 {
@@ -11,29 +11,34 @@ pub fn conflict_code(file: &[u8], mask: u32) -> u64 {
         Ok(table) if mask >> table.tasks.len() != 0 || mask.count_ones() < 2 => {
             Refusal { cause: Cause::BadConflictMask, place: 0 }.code()
         }
-        Ok(table) => answer(&table, mask),
+        Ok(table) => answer(mask, &|set| late(&table.tasks, set)),
     }
 }
 
-fn answer(table: &Table, mask: u32) -> u64 {
-    if !late(&table.tasks, mask) {
-        0
-    } else if is_minimal(table, mask) {
-        2
-    } else {
-        1
+/// The answer for a set, if this is what is late.
+pub fn answer(set: u32, is_late: &dyn Fn(u32) -> bool) -> u64 {
+    let minimal = || members(set).all(|task| !is_late(set & !(1 << task)));
+    match is_late(set) {
+        false => 0,
+        true if minimal() => 2,
+        true => 1,
     }
 }
 
-/// Whether a late set is not late with any one task left out.
-fn is_minimal(table: &Table, late_set: u32) -> bool {
-    members(late_set).all(|task| !late(&table.tasks, late_set & !(1 << task)))
+/// How many of the sets are late. A set with an unknown task is none of the table's, and a file that is refused
+/// has none.
+pub fn late_sets(file: &[u8], sets: &[u32]) -> u64 {
+    let Ok(table) = read(file) else {
+        return 0;
+    };
+    let own = sets.iter().filter(|&&set| set >> table.tasks.len() == 0);
+    own.filter(|&&set| is_late(&table.tasks, set)).count() as u64
 }
 
 /// Leaves out each task in turn while the rest stays late; the set itself if it is not late.
-pub fn minimal_part(tasks: &[Task], set: u32) -> u32 {
+pub fn minimal_part(set: u32, is_late: &dyn Fn(u32) -> bool) -> u32 {
     members(set).fold(set, |rest, task| {
         let without = rest & !(1 << task);
-        if late(tasks, without) { without } else { rest }
+        if is_late(without) { without } else { rest }
     })
 }

@@ -60,6 +60,23 @@ pub fn judge_number(file: &[u8], placement: &[u8]) -> u16 {
     }
 }
 
+/// The C entry that hands back the whole judgement: into `out` the number, what it concerns, and the response of
+/// each task. What comes back is the count of places written, or a refusal's code, and then nothing is written.
+pub fn judge_tasks(file: &[u8], placement: &[u8], out: &mut [i32]) -> u64 {
+    let judgement = match judge(file, placement) {
+        Ok(judgement) => judgement,
+        Err(refusal) => return refusal.code(),
+    };
+    let Some(places) = out.get_mut(..placement.len() + 2) else {
+        return Refusal { cause: Cause::BufferTooShort, place: 0 }.code();
+    };
+    let (number, concerned) = judgement.broken.map_or((0, 0), |(rule, concerned)| (rule as usize, concerned));
+    let responses = judgement.responses.iter().map(|&response| response as i32);
+    let numbers = [number as i32, concerned as i32].into_iter().chain(responses);
+    places.iter_mut().zip(numbers).for_each(|(place, number)| *place = number);
+    places.len() as u64
+}
+
 /// A placement of every task on a processor of the table.
 pub struct Placed<'a> {
     pub table: &'a Table,

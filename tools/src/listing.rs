@@ -9,7 +9,7 @@ use crate::search::checker::parse_list;
 use crate::search::{head, with_list};
 use std::fmt;
 
-#[derive(Debug, PartialEq, Eq)]
+#[derive(Clone, Debug, PartialEq, Eq)]
 pub enum Listing {
     Refused(Refusal),
     Searched {
@@ -21,7 +21,7 @@ pub enum Listing {
     },
 }
 
-#[derive(Debug, PartialEq, Eq)]
+#[derive(Clone, Debug, PartialEq, Eq)]
 pub struct Found {
     pub tasks: Vec<Stand>,
     /// For each processor, in thousandths of H.
@@ -29,7 +29,7 @@ pub struct Found {
 }
 
 /// Where a task stands, and how it fares there.
-#[derive(Debug, PartialEq, Eq)]
+#[derive(Clone, Debug, PartialEq, Eq)]
 pub struct Stand {
     pub processor: usize,
     pub response: u32,

@@ -123,6 +123,9 @@ pub const CAUSES: [Cause; 15] = [
     Cause::BadConflictMask,
 ];
 
+/// The first eleven: what a file can be refused for.
+pub const CAUSES_OF_A_FILE: [Cause; 11] = *CAUSES.first_chunk().unwrap();
+
 impl Cause {
     pub fn words(self) -> &'static str {
         match self {

@@ -1,6 +1,6 @@
 //! Response and lateness twice over: by the tick run, and by the response equation.
 
-use crate::model::Task;
+use crate::model::{Task, hyperperiod};
 
 /// One job of the tick run.
 struct Job {
@@ -9,12 +9,21 @@ struct Job {
     had: u32,
 }
 
-/// What is seen of a set of tasks that run alone on one processor.
-pub struct Run {
+/// A set of tasks that run alone on one processor, as far as they have come: 01 "Response and run", tick by
+/// tick and job by job.
+pub struct Run<'a> {
+    tasks: &'a [Task],
+    set: u32,
+    /// The next tick.
+    tick: u32,
+    unfinished: Vec<Job>,
     pub late: bool,
     /// When each task's first job was finished; 0 if it was not, or if the task is not in the set.
     pub first_finish: Vec<u32>,
 }
+
+/// A way to tell whether a set of these tasks is late when it runs alone on one processor.
+pub type Lateness = fn(&[Task], u32) -> bool;
 
 /// The members of a set of tasks, lowest first.
 pub fn members(mut set: u32) -> impl Iterator<Item = usize> {
@@ -25,24 +34,81 @@ pub fn members(mut set: u32) -> impl Iterator<Item = usize> {
     })
 }
 
-/// 01 "Response and run", tick by tick. Two hyperperiods of the set show all that it ever does.
-pub fn run(tasks: &[Task], set: u32, ticks: u32) -> Run {
-    let mut run = Run { late: false, first_finish: vec![0; tasks.len()] };
-    let mut unfinished: Vec<Job> = Vec::new();
-    for tick in 0..ticks {
-        let released = members(set).filter(|&task| tick.is_multiple_of(tasks[task].period));
-        unfinished.extend(released.map(|task| Job { task, released: tick, had: 0 }));
+impl Run<'_> {
+    fn start(tasks: &[Task], set: u32) -> Run<'_> {
+        Run { tasks, set, tick: 0, unfinished: Vec::new(), late: false, first_finish: vec![0; tasks.len()] }
+    }
+
+    fn step(&mut self) {
+        let (tasks, tick) = (self.tasks, self.tick);
+        let released = members(self.set).filter(|&task| tick.is_multiple_of(tasks[task].period));
+        self.unfinished.extend(released.map(|task| Job { task, released: tick, had: 0 }));
         let first = |job: &&mut Job| (tasks[job.task].priority, std::cmp::Reverse(job.released));
-        if let Some(job) = unfinished.iter_mut().max_by_key(first) {
+        if let Some(job) = self.unfinished.iter_mut().max_by_key(first) {
             job.had += 1;
             if job.had == tasks[job.task].execution && job.released == 0 {
-                run.first_finish[job.task] = tick + 1;
+                self.first_finish[job.task] = tick + 1;
             }
         }
-        unfinished.retain(|job| job.had < tasks[job.task].execution);
-        run.late |= unfinished.iter().any(|job| tick == job.released + tasks[job.task].deadline - 1);
+        self.unfinished.retain(|job| job.had < tasks[job.task].execution);
+        self.late |= self.unfinished.iter().any(|job| tick == job.released + tasks[job.task].deadline - 1);
+        self.tick += 1;
     }
+
+    /// So many ticks more, or up to the first late job.
+    fn go_on(&mut self, ticks: u32) {
+        let end = self.tick + ticks;
+        while self.tick < end && !self.late {
+            self.step();
+        }
+    }
+
+    /// What the ticks to come depend on, once all tasks release together: the unfinished jobs in the order of
+    /// their releases, each with its task, its age and the ticks that it had.
+    fn backlog(&self) -> Vec<(usize, u32, u32)> {
+        self.unfinished.iter().map(|job| (job.task, self.tick - job.released, job.had)).collect()
+    }
+}
+
+/// So many ticks of the run.
+pub fn run(tasks: &[Task], set: u32, ticks: u32) -> Run<'_> {
+    let mut run = Run::start(tasks, set);
+    (0..ticks).for_each(|_| run.step());
     run
+}
+
+/// Whether a set is late, by its tick run alone. The run has no end, but it is decided as soon as a job is
+/// late, or a hyperperiod of the set leaves the backlog that it found: all tasks release together then as they
+/// did before, so that what follows repeats what was seen, for ever.
+///
+/// One hyperperiod is enough. Its length is a multiple of each period T, so that a job released in it at r has
+/// r + D ≤ r + T ≤ its end. If none is late, each is finished at its end, and the backlog is empty as at tick 0.
+/// If the load is above 1, its work is more than its ticks: some job is unfinished at its end, and late.
+pub fn runs_late(tasks: &[Task], set: u32) -> bool {
+    let hyperperiod = hyperperiod_of(tasks, set);
+    let mut run = Run::start(tasks, set);
+    loop {
+        let found = run.backlog();
+        run.go_on(hyperperiod);
+        if run.late || run.backlog() == found {
+            return run.late;
+        }
+    }
+}
+
+fn hyperperiod_of(tasks: &[Task], set: u32) -> u32 {
+    hyperperiod(&members(set).map(|task| tasks[task]).collect::<Vec<_>>())
+}
+
+/// The hyperperiod up to which `is_late` goes by the tick run.
+const LONGEST_RUN: u32 = 10_000;
+
+/// Whether a set is late: by the tick run, or by the response equation where the run is long.
+pub fn is_late(tasks: &[Task], set: u32) -> bool {
+    match hyperperiod_of(tasks, set) {
+        0..=LONGEST_RUN => runs_late(tasks, set),
+        _ => late(tasks, set),
+    }
 }
 
 /// Whether a set is late when run alone on one processor, by the response equation.
@@ -86,7 +152,6 @@ mod tests {
     use super::*;
     use crate::examples::task;
     use crate::generate::sets::{load, random_set};
-    use crate::model::hyperperiod;
     use crate::random::Random;
 
     fn all(tasks: &[Task]) -> u32 {
@@ -150,6 +215,7 @@ mod tests {
         for _ in 0..200_000 {
             let tasks = random_set(&mut random);
             let run = run(&tasks, all(&tasks), 2 * hyperperiod(&tasks));
+            assert_eq!(run.late, runs_late(&tasks, all(&tasks)), "{tasks:?}");
             assert_eq!(run.late, late(&tasks, all(&tasks)), "{tasks:?}");
             seen.note(&tasks, run.late);
             for task in 0..tasks.len() {

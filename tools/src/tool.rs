@@ -12,6 +12,14 @@ mod c {
             placement: *const u8,
             placement_length: usize,
         ) -> u16;
+        pub fn placement_judge_tasks(
+            file: *const u8,
+            length: usize,
+            placement: *const u8,
+            placement_length: usize,
+            out: *mut i32,
+            out_length: usize,
+        ) -> u64;
         pub fn placement_search(file: *const u8, length: usize, answer: *mut u8, answer_length: usize)
         -> u64;
         pub fn placement_late_sets(file: *const u8, length: usize, sets: *const u32, count: usize) -> u64;
@@ -34,6 +42,23 @@ pub fn conflict(file: &[u8], mask: u32) -> u64 {
 pub fn judge(file: &[u8], placement: &[u8]) -> u16 {
     // SAFETY: the slices are valid during the call, and the function only reads them.
     unsafe { c::placement_judge(file.as_ptr(), file.len(), placement.as_ptr(), placement.len()) }
+}
+
+/// The count of numbers written into `out`, which are the judgement's number, what it concerns and the responses;
+/// or the refusal's number × 2^32 + its place.
+pub fn judge_tasks(file: &[u8], placement: &[u8], out: &mut [i32]) -> u64 {
+    // SAFETY: the slices are valid during the call; the function only reads the file and the placement, and
+    // writes within `out` alone.
+    unsafe {
+        c::placement_judge_tasks(
+            file.as_ptr(),
+            file.len(),
+            placement.as_ptr(),
+            placement.len(),
+            out.as_mut_ptr(),
+            out.len(),
+        )
+    }
 }
 
 /// The count of bytes written into the answer, or the refusal.

@@ -1,6 +1,7 @@
-//! The conflict check: the tool beside the independent one.
+//! The conflict check and the count of late sets: the tool beside the independent ones.
 
 use tools::comparison::conflicts::compare;
+use tools::comparison::lateness::{self, Tally};
 use tools::examples::{paper, processor, task};
 use tools::file::{File, encode};
 use tools::tool;
@@ -54,4 +55,27 @@ fn generated_files_and_masks() {
     println!("seed {seed}: {} pairs, {tally:?}", counts.iter().sum::<u64>());
     assert!(counts.iter().sum::<u64>() >= 200_000);
     assert!(counts.iter().all(|&count| count >= 1_000), "an answer that hardly occurs: {tally:?}");
+}
+
+/// Of the paper's sets 7 are late; a task that the table does not have counts for nothing, nor does no set.
+#[test]
+fn late_sets_of_the_paper() {
+    let file = encode(&paper::table());
+    let mut sets: Vec<u32> = paper::CONFLICTS.iter().map(|&(tasks, _)| paper::mask(tasks)).collect();
+    assert_eq!(tool::late_sets(&file, &sets), 7);
+    sets.extend([1 << 20, 1 << 5 | 1 << 9 | 1 << 31, 0]);
+    assert_eq!(tool::late_sets(&file, &sets), 7);
+    assert_eq!(tool::late_sets(&file, &[]), 0);
+    assert_eq!(tool::late_sets(&file[..file.len() - 1], &sets), 0);
+}
+
+#[test]
+fn generated_late_sets() {
+    let seed = 0x006C_6174_6500;
+    let tally = lateness::compare(seed, 20_000, &tool::late_sets)
+        .unwrap_or_else(|difference| panic!("{difference:?}"));
+    println!("seed {seed}: {tally:?}");
+    let Tally { late, in_time, unknown, refused, lists } = tally;
+    assert!(late >= 50_000 && in_time >= 50_000, "{tally:?}");
+    assert!([unknown, refused, lists].iter().all(|&count| count >= 10_000), "{tally:?}");
 }

@@ -3,14 +3,17 @@
 use std::fs;
 use std::path::{Path, PathBuf};
 use std::process::Command;
+use tools::comparison::explained::check;
+use tools::comparison::explaining::compare;
 use tools::examples::reading;
 use tools::examples::searching::{LISTING, three};
 use tools::explain::explain;
 use tools::file::encode;
+use tools::generate::files::sorts;
 use tools::listing::{Found, Listing, Stand, parse};
-use tools::model::{CAUSES, Refusal};
+use tools::model::Refusal;
 use tools::program::{self, root};
-use tools::text::Names;
+use tools::tool;
 
 const EXAMPLE: &str = "\
 Found: this is the first placement that keeps the rules and in which no job is ever late; the set listed \
@@ -29,6 +32,46 @@ cannot share a processor:
   brake, motor, report
 ";
 
+/// The same table as a file, which has no names.
+const WITHOUT_NAMES: &str = "\
+Found: this is the first placement that keeps the rules and in which no job is ever late; the set listed \
+cannot share a processor, and every earlier one breaks a rule or has that set on one processor.
+
+task  processor  response  deadline
+t0    p0                1         4
+t1    p0                3         6
+t2    p1                3         9
+
+processor  load  limit
+p0          583   1000  |########################                |
+p1          250   1000  |##########                              |
+
+cannot share a processor:
+  t0, t1, t2
+";
+
+const BARRIER: &str = "\
+Found: this is the first placement that keeps the rules and in which no job is ever late; each of the 2 sets \
+listed cannot share a processor, and every earlier one breaks a rule or has such a set on one processor.
+
+task        processor  response  deadline
+lamp        card-a            2         2
+gate-left   card-b            2         4
+gate-right  card-b            4         4
+
+processor  load  limit
+card-a      500   1000  |####################                    |
+card-b     1000   1000  |########################################|
+
+cannot share a processor:
+  lamp, gate-left
+  lamp, gate-right
+";
+
+const REFUSED: &str =
+    "The file is refused, number 7, at byte 36, task 1 (the first is 0): the priority of an earlier task.\n";
+
+/// A listing of the program's example, with these sets and this mark.
 fn of_the_program(found: bool, conflicts: Vec<u32>, complete: bool) -> Listing {
     let stand = |processor, response, deadline| Stand { processor, response, deadline };
     let tasks = vec![stand(0, 1, 4), stand(0, 3, 6), stand(1, 3, 9)];
@@ -36,32 +79,47 @@ fn of_the_program(found: bool, conflicts: Vec<u32>, complete: bool) -> Listing {
     Listing::Searched { found, conflicts, complete }
 }
 
-/// The sentence is the first line; what the list says stands in it.
+/// What every listing of the example says, whether or not it is true.
 #[test]
 fn sentences() {
-    let first = "Found: this is the first placement that keeps the rules and in which no job is ever late";
-    let breaks = "every earlier one breaks a rule";
-    let none = "No placement exists";
-    let two = "each of the 2 sets listed cannot share a processor";
-    let cut = "keeps the rules and has no set listed on one processor; it is late by another";
-    let rule_out = "out every placement that keeps the rules";
-    let one = "the set listed cannot share a processor, and this rules";
-    let cases = [
-        (true, vec![], true, format!("{first}; {breaks}.")),
-        (true, vec![3, 5], true, format!("{first}; {two}, and {breaks} or has such a set on one processor.")),
-        (true, vec![3, 5], false, format!("{first}; {two}, but the list is cut: some earlier one {cut}.")),
-        (false, vec![], true, format!("{none}: none keeps the rules.")),
-        (false, vec![7], true, format!("{none}: {one} {rule_out}.")),
-        (false, vec![3, 5], true, format!("{none}: {two}, and together they rule {rule_out}.")),
-        (false, vec![3, 5], false, format!("{none}; {two}, but the list is cut: some placement {cut}.")),
-    ];
-    for (found, conflicts, complete, sentence) in cases {
-        let listing = of_the_program(found, conflicts, complete);
-        let explained = explain(&encode(&three()), None, &listing).expect("a listing of this table");
-        assert_eq!(explained.lines().next(), Some(sentence.as_str()));
-        assert_eq!(explained.contains("t0    p0 "), found, "{explained}");
-        assert_eq!(explained.contains("  t0, t2\n"), sentence.contains(two), "{explained}");
+    let file = encode(&three());
+    for found in [true, false] {
+        for complete in [true, false] {
+            for conflicts in [vec![], vec![7], vec![3, 5], vec![3, 5, 6]] {
+                let listing = of_the_program(found, conflicts, complete);
+                let explained = explain(&file, None, &listing).expect("a listing of this table");
+                assert_eq!(check(&file, None, &listing.to_string(), &explained), Ok(()), "{explained}");
+            }
+        }
     }
+}
+
+/// A bar has forty signs for a thousand thousandths, and the first thousandth shows.
+#[test]
+fn bars() {
+    let file = encode(&three());
+    for (load, signs) in
+        [(0, 0), (1, 1), (25, 1), (26, 2), (500, 20), (501, 21), (975, 39), (976, 40), (1000, 40)]
+    {
+        let mut listing = of_the_program(true, Vec::new(), true);
+        if let Listing::Searched { found: Some(found), .. } = &mut listing {
+            found.loads = vec![load, 0];
+        }
+        let bar = format!(" |{}{}|\n", "#".repeat(signs), " ".repeat(40 - signs));
+        let explained = explain(&file, None, &listing).expect("a listing of this table");
+        assert!(explained.contains(&bar), "{load}: {explained}");
+        assert_eq!(check(&file, None, &listing.to_string(), &explained), Ok(()), "{explained}");
+    }
+}
+
+#[test]
+fn generated_files() {
+    let seed = 0x0065_7870_6C61;
+    let files = sorts().into_iter().cycle().take(6_400);
+    let tally =
+        compare(seed, files, &tool::search, &explain).unwrap_or_else(|difference| panic!("{difference:?}"));
+    println!("seed {seed}: {} listings, {tally:?}", tally.listings());
+    assert!(tally.least() >= 50, "an outcome that hardly occurs: {tally:?}");
 }
 
 /// A listing of another table is none of this one.
@@ -104,9 +162,11 @@ fn refusals() {
     for (what, words) in cases {
         assert_eq!(sentence(what), format!("The file is refused, number {words}\n"));
     }
-    let refused = reading::all().into_iter().filter(|example| example.number != 0);
-    refused.for_each(|example| assert!(sentence(example.what).ends_with(".\n")));
-    assert!(CAUSES.iter().all(|cause| !cause.words().is_empty()));
+    for example in reading::all().into_iter().filter(|example| example.number != 0) {
+        let listing = format!("refused {} {}\n", example.number, example.place);
+        let checked = check(&example.file.bytes, None, &listing, &sentence(example.what));
+        assert_eq!(checked, Ok(()), "{}", example.what);
+    }
 }
 
 fn path(name: &str) -> PathBuf {
@@ -148,16 +208,27 @@ fn texts_and_files() {
     assert_eq!(run("round-trip", &tidy_text, ""), Ok(tidy));
 }
 
+/// By the binary, from the stored listings.
 #[test]
 fn explanations() {
     let example = path("example.txt");
     assert_eq!(run("listing", &example, ""), Ok(LISTING.as_bytes().to_vec()));
-    assert_eq!(run("explain", &example, LISTING), Ok(EXAMPLE.as_bytes().to_vec()));
-    let table = written("example.table", &encode(&three()));
-    let explained = String::from_utf8(run("explain", &table, LISTING).expect("words")).expect("UTF-8");
-    assert!(explained.ends_with("cannot share a processor:\n  t0, t1, t2\n"), "{explained}");
-    let names = Names::made_up(&three());
-    assert_eq!(explain(&encode(&three()), Some(names), &parse(LISTING).expect("a listing")), Some(explained));
+    let without_names = written("example.table", &encode(&three()));
+    let cases = [
+        (example, "example.listing", EXAMPLE),
+        (without_names, "example.listing", WITHOUT_NAMES),
+        (path("barrier.txt"), "barrier.listing", BARRIER),
+        (path("refused.tbl"), "refused.listing", REFUSED),
+    ];
+    for (table, listing, explained) in cases {
+        let listing = fs::read_to_string(path(listing)).expect("a listing");
+        assert_eq!(
+            run("explain", &table, &listing),
+            Ok(explained.as_bytes().to_vec()),
+            "{}",
+            table.display()
+        );
+    }
 }
 
 /// The path and the line; one line for each mistake; nothing on standard output.

@@ -1,6 +1,6 @@
 //! Judging placements: the tool's number beside that of the independent judge.
 
-use tools::comparison::judging::compare;
+use tools::comparison::judging::{NUMBERS, compare};
 use tools::examples::{judging, paper};
 use tools::file::encode;
 use tools::judge::judge_number;
@@ -27,7 +27,7 @@ fn generated_files_and_placements() {
         compare(seed, 450, &judge_number, &tool::judge).unwrap_or_else(|difference| panic!("{difference:?}"));
     println!("seed {seed}: {tally:?}");
     assert!(tally.values().sum::<u64>() >= 500_000);
-    for number in [0, 13, 14, 101, 102, 103, 104, 105, 106, 107] {
+    for number in NUMBERS {
         assert!(tally.get(&number).is_some_and(|&count| count >= 1_000), "{number} hardly occurs: {tally:?}");
     }
 }

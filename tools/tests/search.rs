@@ -1,5 +1,5 @@
-//! The search: the tool's answers checked, on small tables by trying all placements, on medium ones by
-//! an independent search.
+//! The search: the tool's answers checked, on small tables by trying all placements and running each
+//! processor tick by tick, on medium ones by an independent search.
 
 use tools::comparison::searching::{Difference, Tally, compare_medium, compare_small};
 use tools::examples::{reading, searching, task};
@@ -69,7 +69,7 @@ fn passed(seed: u64, compared: Result<Tally, Difference>) -> Tally {
 #[test]
 fn small_tables_with_every_length_of_the_buffer() {
     let seed = 0x7365_6172_6368;
-    let tally = passed(seed, compare_small(seed, 20_000, &tool::search));
+    let tally = passed(seed, compare_small(seed, 50_000, &tool::search));
     assert!(tally.least() >= 1_000 && tally.refused >= 100_000, "an outcome that hardly occurs: {tally:?}");
 }
 

@@ -2,6 +2,7 @@
 
 use tools::file;
 use tools::generate::crowded::small_table;
+use tools::generate::names::own_names;
 use tools::generate::tables::{Shape, table};
 use tools::model::{Message, Refusal, Table};
 use tools::random::Random;
@@ -34,20 +35,6 @@ fn round_trips() {
         assert_eq!((&encoded, &given), (&bytes, &names), "{text}");
         assert_eq!(write(&read(&encoded).expect("a table"), &given), text);
         assert!(is_text(text.as_bytes()) && !is_text(&bytes));
-    }
-}
-
-/// Names of all lengths, with signs of each sort in them.
-fn own_names(random: &mut Random, table: &Table) -> Names {
-    let mut name = |first: &str, number: usize| {
-        let middle: String =
-            (0..random.below(12)).map(|_| random.pick(&['-', '_', '.', 'a', 'Z', '7', 'ü'])).collect();
-        format!("{first}{middle}{number}")
-    };
-    let made_up = Names::made_up(table);
-    Names {
-        tasks: (0..made_up.tasks.len()).map(|number| name("task", number)).collect(),
-        processors: (0..made_up.processors.len()).map(|number| name("on", number)).collect(),
     }
 }
 

@@ -1,12 +1,9 @@
 //! Compares a conflict check with the independent one.
 
-use crate::conflict::{conflict_code, minimal_part};
-
+use crate::conflict::conflict_code;
 use crate::file::encode;
-use crate::generate::faulty::all_meetings;
-use crate::generate::sets::{crowded_set, free_table, random_set};
-use crate::generate::tables::{Shape, table};
-use crate::model::Table;
+use crate::generate::faulty::refused_file;
+use crate::generate::masks::{masks, table_of_sets};
 use crate::random::Random;
 
 /// The first input that is answered differently; codes as the C function returns them.
@@ -57,10 +54,11 @@ struct Comparison<'a> {
 pub fn compare(seed: u64, files: usize, candidate: Check) -> Result<Tally, Difference> {
     let mut comparison = Comparison { candidate, random: Random::new(seed), tally: Tally::default() };
     for round in 0..files {
-        let table = comparison.random_table(round);
-        comparison.masks(&table)?;
+        let table = table_of_sets(&mut comparison.random, round);
+        let (file, masks) = (encode(&table), masks(&mut comparison.random, &table));
+        masks.into_iter().try_for_each(|mask| comparison.check(&file, mask))?;
         if round.is_multiple_of(8) {
-            comparison.damaged(&table)?;
+            comparison.damaged(file)?;
         }
     }
     Ok(comparison.tally)
@@ -77,53 +75,13 @@ impl Comparison<'_> {
         Ok(())
     }
 
-    /// Mostly tables in which some of the sets are late; now and then one at the limits of a file,
-    /// where the equation can take a million rounds.
-    fn random_table(&mut self, round: usize) -> Table {
-        let random = &mut self.random;
-        if round % 1000 == 999 {
-            let shape = Shape::random(random);
-            return table(random, shape);
-        }
-        let tasks = match random.below(2) {
-            0 => random_set(random),
-            _ => {
-                let (count, crowd) = (2 + random.below(23), random.within(2, 8));
-                crowded_set(random, count, crowd)
-            }
-        };
-        free_table(tasks, 1)
-    }
-
-    fn masks(&mut self, table: &Table) -> Result<(), Difference> {
-        let file = encode(table);
-        let all = (1 << table.tasks.len()) - 1;
-        let mut masks = vec![0, 1, all, all + 1, all | 1 << 31, u32::MAX];
-        for _ in 0..8 {
-            masks.push(self.few_tasks(table));
-            masks.push(self.random.draw() as u32 & all);
-        }
-        let minimal = minimal_part(&table.tasks, all);
-        let with_another = minimal | 1 << self.random.below(table.tasks.len());
-        masks.extend([minimal, with_another, minimal & minimal.wrapping_sub(1)]);
-        masks.into_iter().try_for_each(|mask| self.check(&file, mask))
-    }
-
-    fn few_tasks(&mut self, table: &Table) -> u32 {
-        let count = 2 + self.random.below(3);
-        (0..count).fold(0, |mask, _| mask | 1 << self.random.below(table.tasks.len()))
-    }
-
     /// A refusal of the file comes before one of the mask.
-    fn damaged(&mut self, table: &Table) -> Result<(), Difference> {
-        let mut file = encode(table);
+    fn damaged(&mut self, mut file: Vec<u8>) -> Result<(), Difference> {
         let place = self.random.below(file.len());
         file[place] ^= 1 << self.random.below(8);
         let mask = self.random.draw() as u32 & 7;
         self.check(&file, mask)?;
-        let meetings = all_meetings();
-        let meeting = &meetings[self.random.below(meetings.len())];
-        let (refused, _) = meeting.file(&mut self.random);
+        let (refused, _) = refused_file(&mut self.random);
         self.check(&refused, mask)
     }
 }
@@ -131,10 +89,11 @@ impl Comparison<'_> {
 #[cfg(test)]
 mod tests {
     use super::*;
-    use crate::generate::sets::load;
-    use crate::model::{Task, hyperperiod};
+    use crate::comparison::misreading::WRONG_LATENESS;
+    use crate::conflict::answer;
+    use crate::model::{Table, Task};
     use crate::reader::read;
-    use crate::schedule::{late, members};
+    use crate::schedule::late;
 
     fn detected(what: &str, wrong: Check) {
         assert!(compare(7, 300, wrong).is_err(), "not detected: {what}");
@@ -174,34 +133,17 @@ mod tests {
             1 if !late(&table.tasks, mask & (mask - 1)) => 2,
             _ => answer,
         });
-        detected_answer("utilisation at most 1 taken as in time", &|table, mask, answer| {
-            let part: Vec<Task> = members(mask).map(|task| table.tasks[task]).collect();
-            if load(&part) <= hyperperiod(&part) { 0 } else { answer }
-        });
         detected_answer("pairs only are minimal", &|_, mask, answer| match answer {
             2 if mask.count_ones() > 2 => 1,
             _ => answer,
         });
     }
 
-    /// One more job of the other task where it is released at the very tick of the response.
-    fn late_with_release_at_response(table: &Table, set: u32) -> bool {
-        let response_exists = |own: usize| {
-            let own = &table.tasks[own];
-            let higher =
-                || members(set).map(|k| &table.tasks[k]).filter(|other| other.priority > own.priority);
-            let demand =
-                |time: u32| higher().map(|other| (time / other.period + 1) * other.execution).sum::<u32>();
-            (1..=own.deadline).any(|time| own.execution + demand(time) == time)
-        };
-        members(set).any(|task| !response_exists(task))
-    }
-
     #[test]
-    fn a_release_at_the_response_is_no_interference() {
-        detected_answer("release at R counted", &|table, mask, answer| {
-            if answer == 0 && late_with_release_at_response(table, mask) { 1 } else { answer }
-        });
+    fn wrong_lateness_is_detected() {
+        for (what, wrong) in WRONG_LATENESS {
+            detected_answer(what, &|table, mask, _| answer(mask, &|set| wrong(&table.tasks, set)));
+        }
     }
 
     #[test]

@@ -2,7 +2,7 @@
 
 use crate::file::encode;
 use crate::generate::around::{Case, breaking};
-use crate::generate::faulty::all_meetings;
+use crate::generate::faulty::refused_file;
 use crate::generate::tables::{Shape, table};
 use crate::judge::{RULES, Rule, judge_number};
 use crate::random::Random;
@@ -20,6 +20,10 @@ pub struct Difference<A> {
 
 /// How many inputs ended in each number: a refusal's, 0 or a rule's.
 pub type Tally = BTreeMap<u16, u64>;
+
+/// Every number in which a judgement can end.
+pub const NUMBERS: [u16; 21] =
+    [0, 1, 2, 3, 4, 5, 6, 7, 8, 9, 10, 11, 13, 14, 101, 102, 103, 104, 105, 106, 107];
 
 /// A way of judging; the answer is the number alone or a whole judgement.
 pub type Judge<'a, A> = &'a dyn Fn(&[u8], &[u8]) -> A;
@@ -105,9 +109,8 @@ impl<A: PartialEq + Debug> Comparison<'_, A> {
 
     /// A refusal of the file comes before one of the placement.
     fn unreadable(&mut self, count: usize) -> Result<(), Difference<A>> {
-        let meetings = all_meetings();
         for _ in 0..count {
-            let (file, _) = meetings[self.random.below(meetings.len())].file(&mut self.random);
+            let (file, _) = refused_file(&mut self.random);
             let (length, processor) = (self.random.below(25), self.random.below(9) as u8);
             self.check(&file, &vec![processor; length])?;
         }
@@ -120,7 +123,7 @@ mod tests {
     use super::*;
     use crate::comparison::misreading::MISREADINGS;
     use crate::judge::{Judgement, judge};
-    use crate::model::{Cause, Refusal, Table};
+    use crate::model::{CAUSES_OF_A_FILE, Cause, Refusal, Table};
     use crate::reader::read;
 
     type Answer = Result<Judgement, Refusal>;
@@ -151,8 +154,8 @@ mod tests {
     #[test]
     fn the_judge_is_not_suspected_itself() {
         let tally = compare(9, 2, &judge, &judge).expect("equal to itself");
-        for number in [0, 13, 14].into_iter().chain(101..=107) {
-            assert!(tally.get(&number).is_some_and(|&count| count > 20), "{number} in {tally:?}");
+        for number in NUMBERS {
+            assert!(tally.get(&number).is_some_and(|&count| count >= 3), "{number} in {tally:?}");
         }
     }
 
@@ -190,6 +193,14 @@ mod tests {
 
     #[test]
     fn wrong_refusals_are_detected() {
+        for cause in CAUSES_OF_A_FILE {
+            detected("the place of the next byte", &|file, placement| match judge(file, placement) {
+                Err(refusal) if refusal.cause == cause => {
+                    Err(Refusal { place: refusal.place + 1, ..refusal })
+                }
+                answer => answer,
+            });
+        }
         detected("the last unknown processor", &|file, placement| match judge(file, placement) {
             Err(Refusal { cause: Cause::UnknownProcessor, .. }) => {
                 Err(Refusal { cause: Cause::UnknownProcessor, place: placement.len() - 1 })

@@ -2,10 +2,14 @@
 //! the answering function as a parameter, so that wrong ones can show that they would be noticed.
 
 pub mod conflicts;
+pub mod explained;
+pub mod explaining;
 pub mod judging;
+pub mod lateness;
 pub mod listings;
 #[cfg(test)]
 mod misreading;
 pub mod printing;
 pub mod reading;
+pub mod responses;
 pub mod searching;

@@ -8,6 +8,7 @@ use crate::model::{CAUSES, Refusal, Table};
 use crate::program::{Ran, pieces};
 use crate::random::Random;
 use crate::reader::read;
+use crate::schedule::is_late;
 use crate::search::Truth;
 use crate::search::checker::{Checker, Fault};
 use crate::search::enumerated::Enumerated;
@@ -124,7 +125,7 @@ fn check_answer(table: &Table, listing: Listing) -> Result<Listing, Wrong> {
 /// By trying all placements where they are few.
 fn truth(table: &Table) -> Box<dyn Truth + '_> {
     match table.processors.len().checked_pow(table.tasks.len() as u32) {
-        Some(0..=1_000) => Box::new(Enumerated::of(table)),
+        Some(0..=1_000) => Box::new(Enumerated::of(table, is_late)),
         _ => Box::new(Pruned::of(table)),
     }
 }
@@ -187,7 +188,7 @@ mod tests {
     /// For all sorts but the lamps, whose conflicts are too many for the independent search.
     fn compared(program: Program) -> Compared {
         let quick = sorts().into_iter().filter(|&sort| sort != Sort::Lamps);
-        compare(30, quick.cycle().take(800), program)
+        compare(30, quick.cycle().take(1_000), program)
     }
 
     fn detected(what: &str, wrong: Program) -> Wrong {

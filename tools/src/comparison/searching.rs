@@ -1,11 +1,13 @@
-//! Checks a search: on small tables, for which all placements can be tried, and on medium ones.
+//! Checks a search: on small tables, for which all placements can be tried and each processor run tick by
+//! tick, and on medium ones.
 
 use crate::file::encode;
 use crate::generate::crowded::{medium_table, small_table};
-use crate::generate::faulty::all_meetings;
+use crate::generate::faulty::refused_file;
 use crate::model::{Cause, Refusal, Table};
 use crate::random::Random;
 use crate::reader::read;
+use crate::schedule::{Lateness, late, runs_late};
 use crate::search::checker::{Checker, Fault, Listing};
 use crate::search::enumerated::Enumerated;
 use crate::search::pruned::Pruned;
@@ -99,11 +101,9 @@ struct Comparison<'a> {
 pub fn compare_small(seed: u64, tables: usize, candidate: Search) -> Result<Tally, Difference> {
     let mut random = Random::new(seed);
     let mut comparison = Comparison::new(seed, candidate);
-    let meetings = all_meetings();
     for _ in 0..tables {
         comparison.every_length(&small_table(&mut random))?;
-        let meeting = &meetings[random.below(meetings.len())];
-        let (unreadable, refusal) = meeting.file(&mut random);
+        let (unreadable, refusal) = refused_file(&mut random);
         comparison.refused(&unreadable, random.below(60), refusal)?;
     }
     Ok(comparison.tally)
@@ -124,10 +124,11 @@ impl Comparison<'_> {
         Comparison { candidate, random: Random::new(!seed), tally: Tally::default() }
     }
 
-    /// From no byte to the first length with three places more than the answer needs.
+    /// From no byte to the first length with three places more than the answer needs. What is late is what the
+    /// tick run shows: no step rests on the response equation.
     fn every_length(&mut self, table: &Table) -> Result<(), Difference> {
         let file = encode(table);
-        let truth = Enumerated::of(table);
+        let truth = Enumerated::of(table, runs_late);
         let mut checker = Checker::new(&truth);
         self.tally.note_table(table);
         let mut buffer = shortest_answer(table);
@@ -195,10 +196,14 @@ fn searched_table(file: &[u8], buffer: usize) -> Result<Table, Refusal> {
     if buffer < shortest_answer(&table) { Err(TOO_SHORT) } else { Ok(table) }
 }
 
-/// The search by trying all placements, refusals included.
+/// The search by trying all placements, refusals included. It goes by the response equation.
 pub fn search_all(file: &[u8], buffer: &mut [u8]) -> Answer {
+    search_by(late, file, buffer)
+}
+
+fn search_by(lateness: Lateness, file: &[u8], buffer: &mut [u8]) -> Answer {
     let table = searched_table(file, buffer.len())?;
-    Ok(answer(&Enumerated::of(&table), buffer))
+    Ok(answer(&Enumerated::of(&table, lateness), buffer))
 }
 
 /// The search by the pruned one, refusals included.
@@ -210,9 +215,10 @@ pub fn search_pruned(file: &[u8], buffer: &mut [u8]) -> Answer {
 #[cfg(test)]
 mod tests {
     use super::*;
-    use crate::comparison::misreading::MISREADINGS;
+    use crate::comparison::misreading::{MISREADINGS, WRONG_LATENESS};
     use crate::conflict::conflict_code;
     use crate::schedule::members;
+    use crate::search::head;
 
     /// An answer with this fault must be found where the wrong search writes it.
     fn detected(what: &str, fault: Fault, wrong: Search) {
@@ -238,13 +244,6 @@ mod tests {
         });
     }
 
-    /// Writes a whole answer and returns its length.
-    fn write(buffer: &mut [u8], parts: &[&[u8]]) -> usize {
-        let answer = parts.concat();
-        buffer[..answer.len()].copy_from_slice(&answer);
-        answer.len()
-    }
-
     fn refused_wrongly(what: &str, wrong: Search) {
         let found = compare_small(10, 100, wrong);
         let refusal = matches!(found, Err(Difference { wrong: Wrong::Refusal { .. } | Wrong::Written, .. }));
@@ -262,32 +261,34 @@ mod tests {
 
     #[test]
     fn wrong_heads_are_detected() {
-        detected_change("none for all", Fault::Head, &|table, buffer, _| {
-            write(buffer, &[b"NO", &vec![255; table.tasks.len()], b"EN\x01"])
+        detected_change("none for all", Fault::Head, &|table, buffer, count| {
+            buffer[..table.tasks.len() + 2].copy_from_slice(&head(table, None));
+            count
         });
-        detected_change("all on the first", Fault::Head, &|table, buffer, _| {
-            write(buffer, &[b"AL", &vec![0; table.tasks.len()], b"EN\x01"])
+        detected_change("all on the first", Fault::Head, &|table, buffer, count| {
+            let first = vec![0; table.tasks.len()];
+            buffer[..table.tasks.len() + 2].copy_from_slice(&head(table, Some(&first)));
+            count
         });
         detected("nothing written", Fault::Head, &|file, buffer| search_all(file, &mut buffer.to_vec()));
         detected_change("the tasks in reverse", Fault::Head, &|table, buffer, count| {
             buffer[2..2 + table.tasks.len()].reverse();
             count
         });
-        detected("processors in falling number", Fault::Head, &|file, buffer| {
-            let mut table = read(file)?;
-            reverse_processors(&mut table);
-            let count = search_all(&encode(&table), buffer)?;
-            let last = table.processors.len() as u8 - 1;
-            let placed = buffer.starts_with(b"AL").then_some(&mut buffer[2..2 + table.tasks.len()]);
-            placed.into_iter().flatten().for_each(|processor| *processor = last - *processor);
-            Ok(count)
+        detected_change("processors in falling number", Fault::Head, &|table, buffer, count| {
+            let falling = first_in_falling_number(table);
+            buffer[..table.tasks.len() + 2].copy_from_slice(&head(table, falling.as_deref()));
+            count
         });
     }
 
-    fn reverse_processors(table: &mut Table) {
-        let unused = 16 - table.processors.len();
-        table.processors.reverse();
-        table.tasks.iter_mut().for_each(|task| task.residence = task.residence.reverse_bits() >> unused);
+    fn first_in_falling_number(table: &Table) -> Option<Vec<u8>> {
+        let (unused, last) = (16 - table.processors.len(), table.processors.len() as u8 - 1);
+        let mut reversed = table.clone();
+        reversed.processors.reverse();
+        reversed.tasks.iter_mut().for_each(|task| task.residence = task.residence.reverse_bits() >> unused);
+        let truth = Enumerated::of(&reversed, runs_late);
+        truth.first().map(|placement| placement.iter().map(|processor| last - processor).collect())
     }
 
     #[test]
@@ -303,7 +304,7 @@ mod tests {
             count
         });
         detected_change("cut as soon as a conflict finds no place", Fault::Mark, &|table, buffer, count| {
-            let (truth, listed) = (Enumerated::of(table), listed(table, &buffer[..count]));
+            let (truth, listed) = (Enumerated::of(table, runs_late), listed(table, &buffer[..count]));
             let unlisted = |mask: u32| !listed.contains(&mask) && truth.is_held(mask);
             if count + 6 > buffer.len() && minimal_conflicts(table).any(unlisted) {
                 buffer[count - 1] = 0;
@@ -422,7 +423,7 @@ mod tests {
         };
         detected_conflict("no common residence", Fault::NotHeld, &|table, mask| common(table, mask) == 0);
         detected_conflict("behind the answer", Fault::NotHeld, &|table, mask| {
-            common(table, mask) != 0 && !Enumerated::of(table).is_held(mask)
+            common(table, mask) != 0 && !Enumerated::of(table, runs_late).is_held(mask)
         });
     }
 
@@ -444,6 +445,15 @@ mod tests {
             }
             answer
         });
+    }
+
+    /// The right search but for what it takes to be late.
+    #[test]
+    fn wrong_lateness_is_detected() {
+        for (what, wrong) in WRONG_LATENESS {
+            let found = compare_small(10, 500, &|file, buffer| search_by(wrong, file, buffer));
+            assert!(matches!(found, Err(Difference { wrong: Wrong::Answer(_), .. })), "{what}: {found:?}");
+        }
     }
 
     /// The right search of a table that was read wrongly.

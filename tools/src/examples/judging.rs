@@ -22,6 +22,17 @@ impl Example {
         encode(&self.table)
     }
 
+    /// What comes back where the responses are written, and the numbers that are written: 14 at 2 is 14 × 2^32
+    /// + 2 and nothing; 107 of task 1 with responses 2 and 0 is 4 and 107, 1, 2, 0.
+    pub fn written(&self) -> (u64, Vec<i32>) {
+        if self.responses.is_empty() {
+            return (u64::from(self.number) << 32 | self.concerned as u64, Vec::new());
+        }
+        let answer = [self.number.into(), self.concerned as i32];
+        let responses = self.responses.iter().map(|&response| response as i32);
+        (self.responses.len() as u64 + 2, answer.into_iter().chain(responses).collect())
+    }
+
     /// The responses with 0 in the places beyond the tasks.
     pub fn all_responses(&self) -> [u32; MOST_TASKS] {
         let mut all = [0; MOST_TASKS];

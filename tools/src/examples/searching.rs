@@ -195,6 +195,7 @@ fn at_the_limits() -> Vec<Example> {
 mod tests {
     use super::*;
     use crate::comparison::searching::{Search, search_all, search_pruned};
+    use crate::schedule::runs_late;
     use crate::search::Truth;
     use crate::search::checker::Checker;
     use crate::search::enumerated::Enumerated;
@@ -217,7 +218,7 @@ mod tests {
         for example in all() {
             agrees(&example, &search_pruned, &Pruned::of(&example.table));
             if example.table.tasks.len() < 24 {
-                agrees(&example, &search_all, &Enumerated::of(&example.table));
+                agrees(&example, &search_all, &Enumerated::of(&example.table, runs_late));
             }
         }
     }

@@ -5,9 +5,9 @@ use super::tables::groups;
 use crate::model::{Message, Processor, Table};
 use crate::random::Random;
 
-/// At most 4^4, 3^6 or 2^8 placements.
+/// At most 2^8, 3^6, 4^4 or 8^3 placements.
 pub fn small_table(random: &mut Random) -> Table {
-    let (processors, most) = random.pick(&[(1, 6), (2, 8), (3, 6), (4, 4)]);
+    let (processors, most) = random.pick(&[(1, 6), (2, 8), (3, 6), (4, 4), (8, 3)]);
     let count = 1 + random.below(most);
     let spare = 1 + random.below(2);
     let mut table = crowded_table(random, processors, count, spare);

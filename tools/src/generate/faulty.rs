@@ -1,7 +1,8 @@
-//! Files with one record in which a chosen set of causes meets, and the refusal that must follow.
+//! Files that are refused, and the refusal that must follow: with one record in which a chosen set of causes
+//! meets, with what is no record, or without a kind.
 
 use super::tables::{Shape, table};
-use crate::file::{File, encode};
+use crate::file::{File, encode, records};
 use crate::model::*;
 use crate::random::Random;
 
@@ -32,7 +33,65 @@ pub fn all_meetings() -> Vec<Meeting> {
     meetings
 }
 
+/// A file that is refused, for each of the causes equally often, and the refusal.
+pub fn refused_file(random: &mut Random) -> (Vec<u8>, Refusal) {
+    match random.pick(&CAUSES_OF_A_FILE) {
+        Cause::Cut if random.once_in(2) => mark_cut(random),
+        Cause::UnknownMark => unknown_mark(random),
+        Cause::KindMissing => kind_missing(random),
+        cause => {
+            let mut meetings = all_meetings();
+            meetings.retain(|meeting| meeting.first() == cause);
+            meetings[random.below(meetings.len())].file(random)
+        }
+    }
+}
+
+/// One byte behind whole records, whatever it is.
+fn mark_cut(random: &mut Random) -> (Vec<u8>, Refusal) {
+    let mut file = some_records(random);
+    let refusal = Refusal { cause: Cause::Cut, place: file.len() };
+    file.push(random.draw() as u8);
+    (file, refusal)
+}
+
+/// Two bytes behind whole records that are no mark, often with one byte of a mark among them.
+fn unknown_mark(random: &mut Random) -> (Vec<u8>, Refusal) {
+    let mut file = some_records(random);
+    let refusal = Refusal { cause: Cause::UnknownMark, place: file.len() };
+    let any = random.draw() as u8;
+    let first = random.pick(&[any, b'N', b'P', b'T', b'C', b'E', b'M', 0]);
+    let second = random.pick(&[any, b'T', b'R', b'K', b'O', b'X', b'S', 0]);
+    let is_known = Kind::of_mark(&[first, second]).is_some();
+    file.extend([first, if is_known { 0 } else { second }]);
+    append_tail(random, &mut file);
+    (file, refusal)
+}
+
+/// Whole records in their order, but none of some kind that must be there. Tasks need processors before them.
+fn kind_missing(random: &mut Random) -> (Vec<u8>, Refusal) {
+    let shape = Shape::random(random);
+    let records = records(&table(random, shape));
+    let (all, first_task) = (records.len(), 1 + shape.processors);
+    let (from, to) = random.pick(&[(0, 0), (0, 1), (0, first_task), (1, first_task), (1, all)]);
+    let file = records[from..to].concat();
+    let refusal = Refusal { cause: Cause::KindMissing, place: file.len() };
+    (file, refusal)
+}
+
+/// The first records of a table, from none to all.
+fn some_records(random: &mut Random) -> Vec<u8> {
+    let shape = Shape::random(random);
+    let records = records(&table(random, shape));
+    records[..random.below(records.len() + 1)].concat()
+}
+
 impl Meeting {
+    /// The numbers of the causes rise in the order in which a record is examined.
+    fn first(&self) -> Cause {
+        self.causes.iter().copied().min().expect("a meeting has a cause")
+    }
+
     fn has(&self, cause: Cause) -> bool {
         self.causes.contains(&cause)
     }
@@ -58,9 +117,7 @@ impl Meeting {
         } else {
             append_tail(random, &mut bytes);
         }
-        // The numbers of the causes rise in the order in which a record is examined.
-        let cause = self.causes.iter().copied().min().expect("a meeting has a cause");
-        (bytes, Refusal { cause, place })
+        (bytes, Refusal { cause: self.first(), place })
     }
 
     /// What stands before the faulty record.
@@ -259,6 +316,18 @@ mod tests {
                 assert_eq!(read(&bytes), Err(refusal), "{:?} {:?}", meeting.kind, meeting.causes);
             }
         }
+    }
+
+    #[test]
+    fn every_cause_of_a_file_occurs() {
+        let mut random = Random::new(12);
+        let mut refused = [0; 12];
+        for _ in 0..5_000 {
+            let (bytes, refusal) = refused_file(&mut random);
+            assert_eq!(read(&bytes), Err(refusal), "{bytes:?}");
+            refused[refusal.cause as usize] += 1;
+        }
+        assert!(refused[1..].iter().all(|&count| count >= 300), "{refused:?}");
     }
 
     /// NT 3 sets, PR 15, TK 127, CO and EX 15 each; MS 2 × 2 × 2 × 4 − 1.

@@ -2,14 +2,13 @@
 
 use super::around::breaking;
 use super::crowded::{medium_table, small_table};
-use super::faulty::{Meeting, all_meetings};
+use super::faulty::refused_file;
 use super::lamps::lamps;
 use super::tables::{Shape, table};
 use crate::file::{encode, records};
 use crate::judge::{RULES, Rule};
-use crate::model::{Cause, Table};
+use crate::model::Table;
 use crate::random::Random;
-use std::collections::BTreeSet;
 use std::iter::repeat_n;
 
 #[derive(Clone, Copy, Debug, PartialEq, Eq)]
@@ -23,7 +22,7 @@ pub enum Sort {
     Limits,
     /// More conflicts than there are places, or nearly so.
     Lamps,
-    /// Refused for one cause or several that meet.
+    /// Refused, for each cause equally often.
     Faulty,
     CutShort,
     /// One byte or one bit is another.
@@ -43,7 +42,7 @@ pub fn sorts() -> Vec<Sort> {
         (Sort::Around, 4),
         (Sort::Limits, 2),
         (Sort::Lamps, 1),
-        (Sort::Faulty, 6),
+        (Sort::Faulty, 8),
         (Sort::CutShort, 2),
         (Sort::Changed, 3),
         (Sort::Appended, 1),
@@ -61,7 +60,7 @@ impl Sort {
             Sort::Around => encode(&around(random)),
             Sort::Limits => encode(&at_the_limits(random)),
             Sort::Lamps => encode(&lamps(random)),
-            Sort::Faulty => faulty(random),
+            Sort::Faulty => refused_file(random).0,
             Sort::CutShort => cut_short(random),
             Sort::Changed => changed(random),
             Sort::Appended => appended(random, 40),
@@ -96,16 +95,6 @@ fn narrow(random: &mut Random, table: &mut Table, placement: &[u8]) {
     }
 }
 
-/// Each cause equally often the first.
-fn faulty(random: &mut Random) -> Vec<u8> {
-    let mut meetings = all_meetings();
-    let first = |meeting: &Meeting| meeting.causes.iter().copied().min();
-    let causes: BTreeSet<Option<Cause>> = meetings.iter().map(first).collect();
-    let chosen = random.pick(&Vec::from_iter(causes));
-    meetings.retain(|meeting| first(meeting) == chosen);
-    meetings[random.below(meetings.len())].file(random).0
-}
-
 /// Within a record or between two.
 fn cut_short(random: &mut Random) -> Vec<u8> {
     let table = small_table(random);
@@ -134,6 +123,6 @@ fn appended(random: &mut Random, most: usize) -> Vec<u8> {
 }
 
 fn noise(random: &mut Random, most: usize) -> Vec<u8> {
-    let length = if random.once_in(4) { 0 } else { random.below(most) };
+    let length = if random.once_in(2) { 0 } else { random.below(most) };
     (0..length).map(|_| random.draw() as u8).collect()
 }

@@ -6,5 +6,7 @@ pub mod faulty;
 pub mod files;
 pub mod lamps;
 pub mod loads;
+pub mod masks;
+pub mod names;
 pub mod sets;
 pub mod tables;

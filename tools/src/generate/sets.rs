@@ -4,8 +4,15 @@ use crate::model::{Processor, Table, Task, hyperperiod};
 use crate::random::Random;
 use crate::schedule::response;
 
-const FAMILIES: [&[u32]; 4] =
-    [&[2, 3, 4, 6, 12], &[2, 5, 10, 15, 30], &[3, 8, 12, 18, 24, 72], &[4, 5, 6, 10, 20, 40, 60, 120]];
+/// In the last two most periods have no common divisor.
+const FAMILIES: [&[u32]; 6] = [
+    &[2, 3, 4, 6, 12],
+    &[2, 5, 10, 15, 30],
+    &[3, 8, 12, 18, 24, 72],
+    &[4, 5, 6, 10, 20, 40, 60, 120],
+    &[1, 2, 7, 14],
+    &[5, 7, 9],
+];
 
 /// One to six tasks; some sets are then brought to a load of exactly 1 or a little above, or get a
 /// deadline that is just met or just missed.

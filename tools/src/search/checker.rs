@@ -1,7 +1,7 @@
 //! A check of any search answer.
 
 use super::{Truth, head, places, shortest_answer};
-use crate::schedule::{late, members, run};
+use crate::schedule::members;
 use std::collections::HashMap;
 
 /// What can be wrong with an answer.
@@ -25,14 +25,11 @@ pub struct Listing {
     pub complete: bool,
 }
 
-/// The hyperperiod up to which the tick run decides whether a set is late; beyond it is the equation.
-const LONGEST_RUN: u32 = 10_000;
-
 /// Checks answers for one table.
 pub struct Checker<'a> {
     pub truth: &'a dyn Truth,
     /// Answers for other buffers list the same sets again: what was found out is kept. Whether a set is a
-    /// minimal conflict by the tick run, and whether a list is complete.
+    /// minimal conflict, and whether a list is complete.
     minimal: HashMap<u32, bool>,
     complete: HashMap<Vec<u32>, bool>,
 }
@@ -77,15 +74,11 @@ impl Checker<'_> {
     }
 
     fn is_minimal_conflict(&mut self, set: u32) -> bool {
-        let table = self.truth.table();
-        let runs_late = |set: u32| match table.hyperperiod {
-            0..=LONGEST_RUN => run(&table.tasks, set, 2 * table.hyperperiod).late,
-            _ => late(&table.tasks, set),
-        };
+        let truth = self.truth;
         *self.minimal.entry(set).or_insert_with(|| {
-            set >> table.tasks.len() == 0
-                && runs_late(set)
-                && members(set).all(|task| !runs_late(set & !(1 << task)))
+            set >> truth.table().tasks.len() == 0
+                && truth.is_late(set)
+                && members(set).all(|task| !truth.is_late(set & !(1 << task)))
         })
     }
 }

@@ -3,7 +3,8 @@
 use super::{Truth, holds};
 use crate::judge::{Placed, Rule};
 use crate::model::Table;
-use crate::schedule::late;
+use crate::schedule::Lateness;
+use std::collections::HashMap;
 
 /// A placement before the first that keeps residence.
 struct Earlier {
@@ -14,20 +15,24 @@ struct Earlier {
 
 pub struct Enumerated<'a> {
     table: &'a Table,
+    lateness: Lateness,
     first: Option<Vec<u8>>,
     earlier: Vec<Earlier>,
 }
 
 impl Enumerated<'_> {
-    /// Runs through up to m^n placements, so it is for small tables alone.
-    pub fn of(table: &Table) -> Enumerated<'_> {
-        let mut truth = Enumerated { table, first: None, earlier: Vec::new() };
+    /// Runs through up to m^n placements, so it is for small tables alone. All that it says of late sets is
+    /// what `lateness` says: with the tick run's, no step rests on the response equation.
+    pub fn of(table: &Table, lateness: Lateness) -> Enumerated<'_> {
+        let mut truth = Enumerated { table, lateness, first: None, earlier: Vec::new() };
+        let mut known = HashMap::new();
+        let mut is_late = |&set: &u32| *known.entry(set).or_insert_with(|| lateness(&table.tasks, set));
         let mut placement = Some(vec![0; table.tasks.len()]);
         while let Some(current) = placement {
             let placed = Placed { table, placement: &current };
             let sets: Vec<u32> = (0..table.processors.len()).map(|processor| placed.on(processor)).collect();
             let keeps_rules = placed.keeps_rules();
-            if keeps_rules && !sets.iter().any(|&set| late(&table.tasks, set)) {
+            if keeps_rules && !sets.iter().any(&mut is_late) {
                 truth.first = Some(current);
                 break;
             }
@@ -43,6 +48,10 @@ impl Enumerated<'_> {
 impl Truth for Enumerated<'_> {
     fn table(&self) -> &Table {
         self.table
+    }
+
+    fn is_late(&self, set: u32) -> bool {
+        (self.lateness)(&self.table.tasks, set)
     }
 
     fn first(&self) -> Option<&[u8]> {

@@ -10,7 +10,6 @@ pub mod pruned;
 
 use crate::conflict::minimal_part;
 use crate::model::Table;
-use crate::schedule::late;
 
 /// The bytes of an answer beside its conflicts: the head's mark, the tasks, the end's mark and byte.
 pub fn shortest_answer(table: &Table) -> usize {
@@ -31,6 +30,9 @@ fn holds(sets: &[u32], conflict: u32) -> bool {
 /// there is none, every placement is earlier.
 pub trait Truth {
     fn table(&self) -> &Table;
+
+    /// Whether a set of the table's tasks is late.
+    fn is_late(&self, set: u32) -> bool;
 
     /// The first placement that keeps the rules and has no late job.
     fn first(&self) -> Option<&[u8]>;
@@ -61,7 +63,7 @@ pub fn answer(truth: &dyn Truth, buffer: &mut [u8]) -> usize {
     while let Some(sets) = &open
         && conflicts.len() < places(table, buffer.len())
     {
-        conflicts.push(some_conflict(table, sets));
+        conflicts.push(some_conflict(truth, sets));
         open = truth.uncovered(&conflicts);
     }
     let answer = with_list(head(table, truth.first()), &conflicts, open.is_none());
@@ -77,7 +79,8 @@ pub fn with_list(head: Vec<u8>, conflicts: &[u32], complete: bool) -> Vec<u8> {
 }
 
 /// A minimal part of the first late set.
-fn some_conflict(table: &Table, sets: &[u32]) -> u32 {
-    let late_set = sets.iter().copied().find(|&set| late(&table.tasks, set));
-    minimal_part(&table.tasks, late_set.expect("an earlier placement that keeps the rules has a late job"))
+fn some_conflict(truth: &dyn Truth, sets: &[u32]) -> u32 {
+    let late_set = sets.iter().copied().find(|&set| truth.is_late(set));
+    let late_set = late_set.expect("an earlier placement that keeps the rules has a late job");
+    minimal_part(late_set, &|part| truth.is_late(part))
 }

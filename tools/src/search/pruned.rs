@@ -3,7 +3,7 @@
 
 use super::Truth;
 use crate::model::Table;
-use crate::schedule::{late, members};
+use crate::schedule::{is_late, late, members};
 
 pub struct Pruned<'a> {
     table: &'a Table,
@@ -12,8 +12,8 @@ pub struct Pruned<'a> {
 
 impl Pruned<'_> {
     pub fn of(table: &Table) -> Pruned<'_> {
-        let is_late = |set: u32| late(&table.tasks, set);
-        let first = Part::empty(table, &is_late).first_placement();
+        let unwanted = |set: u32| late(&table.tasks, set);
+        let first = Part::empty(table, &unwanted).first_placement();
         Pruned { table, first: first.map(|part| part.placement()) }
     }
 
@@ -35,6 +35,10 @@ impl Pruned<'_> {
 impl Truth for Pruned<'_> {
     fn table(&self) -> &Table {
         self.table
+    }
+
+    fn is_late(&self, set: u32) -> bool {
+        is_late(&self.table.tasks, set)
     }
 
     fn first(&self) -> Option<&[u8]> {
@@ -195,9 +199,9 @@ mod tests {
     fn it_agrees_with_trying_all_placements() {
         let mut random = Random::new(11);
         let mut uncovered = [0; 2];
-        for _ in 0..2_000 {
+        for _ in 0..4_000 {
             let table = small_table(&mut random);
-            let (pruned, enumerated) = (Pruned::of(&table), Enumerated::of(&table));
+            let (pruned, enumerated) = (Pruned::of(&table), Enumerated::of(&table, late));
             assert_eq!(pruned.first(), enumerated.first(), "{table:?}");
             let all = 1 << table.tasks.len();
             assert!((1..all).all(|set| pruned.is_held(set) == enumerated.is_held(set)), "{table:?}");
