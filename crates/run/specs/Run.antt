@@ -4,6 +4,7 @@ use mathlib.Core.Bool.{Bool, true, false}
 use mathlib.Core.List.{List}
 use Prim.Native.Nat.{ℕ}
 use Rattle.table.specs.declared.Table.{Table}
+use Rattle.rules.specs.Sets.{standing}
 use Rattle.partial.specs.declared.Sizes.{Sizes}
 use Rattle.goal.specs.Order.{EarlierThan}
 use Rattle.region.specs.Region.{Witness, Settled}

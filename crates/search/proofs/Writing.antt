@@ -18,7 +18,7 @@ use Rattle.judge.specs.Judge.{PlacementOf}
 use Rattle.judge.specs.Good.{Good}
 use Rattle.answer.specs.Answer.{foundHead, endBytes, places, countOf, laid, Listing}
 use Rattle.answer.proofs.Laws.{listing-length, whole-last}
-use Rattle.goal.specs.Order.{Earlier}
+use Rattle.goal.specs.Order.{EarlierThan, Earlier}
 use Rattle.goal.specs.Goal.{headOf, markOf, Listed}
 use Rattle.goal.proofs.First.{Before, earlier-before, before-earlier, found-head, none-before, none-head}
 use Rattle.ledger.specs.Ledger.{masksIn}
