@@ -40,12 +40,12 @@ use Rattle.judge.proofs.Limits.{all-known}
 -- ---- 13, 14, and what is left
 
 -- the three outcomes on a table that was read
-data Judging (t : Table) (q : List ℕ) : Judged → Type 0 where
+pub data Judging (t : Table) (q : List ℕ) : Judged → Type 0 where
   wrong-length : length q ≢ t .tasks .count → Judging t q (refusal PlacementLength 0)
-  unknown-byte : (k : ℕ) → k < length q → t .processors .count ≤ getD q k 0 → Judging t q (refusal UnknownProcessor k)
+  unknown-byte : length q ≡ t .tasks .count → (k : ℕ) → k < length q → t .processors .count ≤ getD q k 0 → Judging t q (refusal UnknownProcessor k)
   placement : PlacementOf t q → Judging t q (judgedPlacement t q)
 
-judging : (t : Table) (q : List ℕ) → Judging t q (judgedOn t q)
+pub judging : (t : Table) (q : List ℕ) → Judging t q (judgedOn t q)
 unfolding judgedOn firstUnknown
 judging t q = go (ℕ-discrete (length q) (t .tasks .count)) (first-below (length q) (λ k. leb m (getD q k 0)))
   where
@@ -54,7 +54,7 @@ judging t q = go (ℕ-discrete (length q) (t .tasks .count)) (first-below (lengt
 
     go : Dec (length q ≡ t .tasks .count) → FirstBelow (length q) (λ k. leb m (getD q k 0)) (firstBelow (length q) (λ k. leb m (getD q k 0))) → Judging t q (judgedOn t q)
     go (no d) f = rw (ne-eqb _ _ d) (wrong-length d)
-    go (yes e) (lowest l u h) = rw (eq-eqb _ _ e, lt-ltb _ _ l) (unknown-byte _ l (leb→le m _ u))
+    go (yes e) (lowest l u h) = rw (eq-eqb _ _ e, lt-ltb _ _ l) (unknown-byte e _ l (leb→le m _ u))
     go (yes e) (nowhere n h) = rw (eq-eqb _ _ e, n, le-ltb (length q) (length q) (omega arith)) (placement (record { long = e; known = all-known m q (omega arith) }))
 
 module _ {t : Table} (s : Sound t) (q : List ℕ) (w : PlacementOf t q) where
@@ -93,7 +93,7 @@ module _ {t : Table} (s : Sound t) (q : List ℕ) where
     where
       go : {j : Judged} → Judging t q j → j .judgement ≡ Kept → Good t q
       go (wrong-length d) e = absurd (let z : _≡_ {A = ℕ} 0 1 = cc in omega arith)
-      go (unknown-byte k l h) e = absurd (let z : _≡_ {A = ℕ} 0 1 = cc in omega arith)
+      go (unknown-byte n k l h) e = absurd (let z : _≡_ {A = ℕ} 0 1 = cc in omega arith)
       go (placement w) e =
           let k = kept-keeps t (placed q) (missed (responsesOf t q)) (kept-check _ e) in
           record { placement = w; keeps = k .0; in-time = λ p late. let r = of-late s q w p late in k .1 (r .0) (r .1) (r .2) }
@@ -103,7 +103,7 @@ module _ {t : Table} (s : Sound t) (q : List ℕ) where
     where
       go : {j : Judged} → Judging t q j → j .judgement ≡ Kept
       go (wrong-length d) = absurd (d (g .placement .long))
-      go (unknown-byte k l h) = absurd (omega (arith, g .placement .known k l))
+      go (unknown-byte n k l h) = absurd (omega (arith, g .placement .known k l))
       go (placement w) = ap judgementBy (keeps-kept t (placed q) (missed (responsesOf t q)) (g .keeps) (λ k l u. g .in-time (getD q k 0) (late-of s q w k l u)))
 
   deadline-late : (k : ℕ) → judgedOn t q .judgement ≡ Broken Deadline k → Keeps t (placed q) × (k < t .tasks .count) × LateSet (tasksIn t) (λ j. placed q j (getD q k 0))
@@ -111,7 +111,7 @@ module _ {t : Table} (s : Sound t) (q : List ℕ) where
     where
       go : {j : Judged} → Judging t q j → j .judgement ≡ Broken Deadline k → Keeps t (placed q) × (k < t .tasks .count) × LateSet (tasksIn t) (λ j. placed q j (getD q k 0))
       go (wrong-length d) e = absurd (let z : _≡_ {A = ℕ} 0 1 = cc in omega arith)
-      go (unknown-byte i l h) e = absurd (let z : _≡_ {A = ℕ} 0 1 = cc in omega arith)
+      go (unknown-byte n i l h) e = absurd (let z : _≡_ {A = ℕ} 0 1 = cc in omega arith)
       go (placement w) e =
           let b = deadline-broken t (placed q) (missed (responsesOf t q)) (late-check _ k e) in
           (b .0, b .1 .within, late-of s q w k (b .1 .within) (b .1 .breaks))
