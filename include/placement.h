@@ -1,7 +1,7 @@
 /* The placement tool's functions for C. Link with libexport.a (rt staticlib export).
  *
- * Every buffer belongs to the caller. No function keeps a pointer, allocates, or reads beyond the length it is given; only placement_search writes,
- * and only into its answer.
+ * Every buffer belongs to the caller. No function keeps a pointer, allocates, or reads beyond the length it is given. Only placement_search and
+ * placement_judge_tasks write, each only into the buffer that it is lent for that; that buffer must not overlap the file or the placement.
  * A pointer is valid for its length, also where that is 0. Each call returns.
  *
  * Where 64 bits come back, a refusal's number (as in the README) is answer >> 32, its place (uint32_t)answer.
@@ -26,6 +26,16 @@ uint64_t placement_conflict(const uint8_t *file, size_t length, uint32_t mask);
  * Returns the refusal's number (1 to 11, 13, 14), 0 if every rule is kept, or the number of the first broken rule (101 to 107).
  */
 uint16_t placement_judge(const uint8_t *file, size_t length, const uint8_t *placement, size_t placement_length);
+
+/* Judges a placement as placement_judge does, and puts the judgement and the response of each task into out, which must not overlap the file or
+ * the placement. For n tasks it takes n + 2 numbers:
+ *   out[0] is 0 if every rule is kept, or the number of the first broken rule (101 to 107);
+ *   out[1] is the lowest number at which that rule is broken, that of a task, a group or a processor; 0 beside 0 and 106;
+ *   out[2 + k] is the response of task k, 0 where the task is late, whichever rule is broken.
+ * Returns the count of numbers written, n + 2; later places of out keep their contents. Or the refusal (1 to 11, 13, 14; then 12 with place 0 if
+ * out has fewer than n + 2 places), and then nothing is written.
+ */
+uint64_t placement_judge_tasks(const uint8_t *file, size_t length, const uint8_t *placement, size_t placement_length, int32_t *out, size_t out_length);
 
 /* Searches the first placement of the file's tasks, in order of task then processor, that keeps every rule and every deadline, and the conflicts that
  * rule out the placements before it. The answer buffer must not overlap the file. For n tasks it takes n + 5 bytes and 6 for each conflict:

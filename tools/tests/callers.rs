@@ -33,15 +33,37 @@ fn of_rust(source: &str) -> PathBuf {
     compiled(rustc.arg(root().join("examples").join(source)), source)
 }
 
-fn prints(program: &Path, file: &[u8], lines: &str) {
-    let ran = run(&mut Command::new(program), &[file]);
+fn prints(program: &Path, arguments: &[&str], file: &[u8], lines: &str) {
+    let ran = run(Command::new(program).args(arguments), &[file]);
     assert_eq!((ran.status, String::from_utf8_lossy(&ran.said).as_ref()), (Some(0), ""));
     assert_eq!(String::from_utf8_lossy(&ran.printed), lines, "{}", program.display());
 }
 
 #[test]
 fn judging() {
-    prints(&of_c("judge.c"), b"", "0\n107\n13\n");
+    prints(&of_c("judge.c"), &[], b"", "0\n107\n13\n");
+}
+
+/// The program's example. On one processor the third task would end at 10, past its deadline of 9. Where task 1
+/// may not stand on processor 1, that is broken first, and the responses are there all the same.
+#[test]
+fn judging_task_by_task() {
+    let program = of_c("tasks.c");
+    let example = encode(&three());
+    let kept = "every rule is kept\ntask 0 on 0 response 1\ntask 1 on 0 response 3\ntask 2 on 1 response 3\n";
+    prints(&program, &["0", "0", "1"], &example, kept);
+    let late = "rule 107 is broken, number concerned 2\n\
+        task 0 on 0 response 1\ntask 1 on 0 response 3\ntask 2 on 0 late\n";
+    prints(&program, &["0", "0", "0"], &example, late);
+    let mut bound = three();
+    bound.tasks[1].residence = 1;
+    let elsewhere = "rule 101 is broken, number concerned 1\n\
+        task 0 on 1 response 1\ntask 1 on 1 response 3\ntask 2 on 1 late\n";
+    prints(&program, &["1", "1", "1"], &encode(&bound), elsewhere);
+    prints(&program, &["0", "0"], &example, "refused: cause 13 at 0\n");
+    prints(&program, &["0", "0", "0", "0"], &example, "refused: cause 13 at 0\n");
+    prints(&program, &["0", "0", "2"], &example, "refused: cause 14 at 2\n");
+    prints(&program, &["0", "0"], &example[..87], "refused: cause 1 at 66\n");
 }
 
 /// The program's example; two of its tasks, which are in time together, without the memory for one, so that
@@ -54,8 +76,8 @@ fn searching() {
     crowded.tasks[1].memory = 101;
     for program in [of_c("search.c"), of_rust("search.rs")] {
         let found = "placed on 0 0 1\nthese cannot share a processor: 0 1 2\nthe list is complete\n";
-        prints(&program, &example, found);
-        prints(&program, &encode(&crowded), "no placement\nthe list is complete\n");
-        prints(&program, &example[..87], "refused: cause 1 at 66\n");
+        prints(&program, &[], &example, found);
+        prints(&program, &[], &encode(&crowded), "no placement\nthe list is complete\n");
+        prints(&program, &[], &example[..87], "refused: cause 1 at 66\n");
     }
 }

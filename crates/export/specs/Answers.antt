@@ -9,6 +9,8 @@ use Rattle.table.specs.Refusal.{causeNumber}
 use Rattle.conflict.specs.declared.Answer.{Answer}
 use Rattle.conflict.specs.declared.Answer.the-variants as answers
 use Rattle.conflict.specs.Conflict.{findingNumber}
+use Rattle.task_report.specs.declared.Answer as reported
+use Rattle.task_report.specs.declared.Answer.the-variants as reports
 use Rattle.search.specs.declared.Answer as searched
 use Rattle.search.specs.declared.Answer.the-variants as searches
 use Rattle.search.specs.Search.{Searched}
@@ -26,6 +28,11 @@ readAs (Refused cause place) = refusedAs cause place
 abbrev pub conflictAs : Answer → ℕ
 conflictAs (answers.Refused cause place) = refusedAs cause place
 conflictAs (answers.Found finding) = findingNumber finding
+
+-- a judgement task by task: the count of numbers written, or the refusal
+abbrev pub judgedTasksAs : reported.Answer → ℕ
+judgedTasksAs (reports.Refused cause place) = refusedAs cause place
+judgedTasksAs (reports.Written count) = count
 
 -- a search: the count of bytes written, or the refusal
 abbrev pub searchAs : searched.Answer → ℕ

@@ -1,11 +1,13 @@
 // What other languages call. A refusal comes back in one number with its place: see `refusedAs` in specs/.
 ghost use mathlib.Core.Path.{_≡_};
 ghost use Prim.Native.Nat.{_≤_};
+ghost use lib.ListN.{length};
 ghost use Rattle.table.specs.Table.{readOf};
 ghost use Rattle.judge.specs.Judge.{judgeOf, judgementNumber};
 ghost use Rattle.conflict.specs.Count.{lateCountOf};
 ghost use Rattle.conflict.specs.Entry.{answerOf};
-ghost use Rattle.export.specs.Answers.{refusedAs, readAs, conflictAs, SearchedAs};
+ghost use Rattle.task_report.specs.Report as reports;
+ghost use Rattle.export.specs.Answers.{refusedAs, readAs, conflictAs, judgedTasksAs, SearchedAs};
 use conflict::Answer;
 use table::Outcome;
 use verdict::Cause;
@@ -49,6 +51,19 @@ pub extern "C" fn placement_judge(file: &[u8], placement: &[u8]) -> u16
     let judged = judge::judge(file, placement);
     let judgement = judged.judgement;
     codes::judgement_number(judgement)
+}
+
+// The judgement, the number concerned and the response of each task, into the lent numbers: how many are written, or the refusal.
+#[no_mangle]
+pub extern "C" fn placement_judge_tasks(file: &[u8], placement: &[u8], out: &mut [i32]) -> u64
+    ensures number { λ r. ⌜ r ≡ judgedTasksAs (reports.answerOf (now (file .entry)) (now (placement .entry)) (length (now (out .entry)))) ⌝ }
+    ensures buffer { λ _. ⌜ now (out .exit) ≡ reports.bufferOf (now (file .entry)) (now (placement .entry)) (now (out .entry)) ⌝ }
+{
+    let answer = task_report::judge_tasks(file, placement, out);
+    match answer {
+        task_report::Answer::Refused(cause, place) => refused_as(cause, place),
+        task_report::Answer::Written(count) => count as u64,
+    }
 }
 
 // The first placement, the conflicts before it and the mark, into the answer buffer: the count of bytes written, or the refusal.

@@ -46,12 +46,12 @@ use Rattle.judge.proofs.Limits.{all-known}
 -- ---- 13, 14, and what is left
 
 -- the three outcomes on a table that was read
-data Judging (t : Table) (q : List ℕ) : Judged → Type 0 where
+pub data Judging (t : Table) (q : List ℕ) : Judged → Type 0 where
   of-length : length q ≢ t .tasks .count → Judging t q (refusedJudgement PlacementLength 0)
   of-byte : {k : ℕ} → FirstUnknown t q k → Judging t q (refusedJudgement UnknownProcessor k)
   of-rules : PlacementOf t q → Judging t q (judgedPlacement t q)
 
-judging : (t : Table) (q : List ℕ) → Judging t q (judgedOn t q)
+pub judging : (t : Table) (q : List ℕ) → Judging t q (judgedOn t q)
 unfolding judgedOn firstUnknown
 judging t q = go (ℕ-discrete (length q) (t .tasks .count)) (first-below (length q) (λ k. leb m (getD q k 0)))
   where

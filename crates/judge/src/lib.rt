@@ -96,7 +96,7 @@ fn responses_of(table: Table, placement: &[u8], sets: [u32; 8]) -> [u32; 24]
 }
 
 // The judgement on a table that was read.
-fn judge_table(t: Table, placement: &[u8]) -> Judged
+pub fn judge_table(t: Table, placement: &[u8]) -> Judged
     requires { ⌜ Sound t ⌝ }
     ensures { λ r. ⌜ r ≡ judgedOn t (now (placement .entry)) ⌝ }
 {

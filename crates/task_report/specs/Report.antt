@@ -1,0 +1,48 @@
+-- The judgement on a placement and the responses, as numbers in the caller's buffer (01, "Judging a placement"; "Refused input" for 1 to 14).
+use mathlib.Core.Bool.{cond}
+use mathlib.Core.List.{List, _∷_, _++_, map}
+use Prim.Native.Nat.{ℕ, _+_}
+use lib.Dec.{ltb}
+use lib.IntN.{ℤ, pos}
+use lib.ListN.{length, take, drop}
+use Rattle.verdict.specs.declared.Cause.the-variants.{ShortAnswer}
+use Rattle.table.specs.Table.{readOf}
+use Rattle.judge.specs.declared.Judgement.{Judgement}
+use Rattle.judge.specs.declared.Judgement.the-variants as judgements
+use Rattle.judge.specs.declared.Judged.{Judged}
+use Rattle.judge.specs.Judge.{judgeOf, judgementNumber, concernedOf}
+use Rattle.task_report.specs.declared.Answer.{Answer}
+use Rattle.task_report.specs.declared.Answer.the-variants.{Refused, Written}
+
+-- 01: the answer's number and the number concerned; beside them stand n responses, one for each task
+abbrev pub numbersOf : ℕ → Judged → List ℕ
+numbersOf n j = judgementNumber (j .judgement) ∷ concernedOf (j .judgement) ∷ take n (j .responses)
+
+-- 12: the buffer has fewer than n + 2 places; else n + 2 numbers are written
+abbrev pub writtenIn : ℕ → ℕ → Answer
+writtenIn n room = cond (ltb room (n + 2)) (Refused ShortAnswer 0) (Written (n + 2))
+
+-- the judgement's refusals come before 12
+abbrev pub answerBy : Judgement → ℕ → ℕ → Answer
+answerBy (judgements.Refused cause place) n room = Refused cause place
+answerBy judgements.Kept n room = writtenIn n room
+answerBy (judgements.Broken rule k) n room = writtenIn n room
+
+-- 01: a refusal writes nothing; else the numbers, each with its sign, stand at the start, and later places keep their contents
+abbrev pub bufferBy : Answer → List ℕ → List ℤ → List ℤ
+bufferBy (Refused cause place) numbers old = old
+bufferBy (Written count) numbers old = map pos numbers ++ drop count old
+
+-- what is answered on a judgement of n tasks, and what a buffer that held old holds then
+abbrev pub answerOn : ℕ → Judged → ℕ → Answer
+answerOn n j room = answerBy (j .judgement) n room
+
+abbrev pub bufferOn : ℕ → Judged → List ℤ → List ℤ
+bufferOn n j old = bufferBy (answerOn n j (length old)) (numbersOf n j) old
+
+-- the same on a file and a placement, by the judgement that also gives the one number for C
+unfoldable pub answerOf : List ℕ → List ℕ → ℕ → Answer
+answerOf file q room = answerOn (readOf file .table .tasks .count) (judgeOf file q) room
+
+unfoldable pub bufferOf : List ℕ → List ℕ → List ℤ → List ℤ
+bufferOf file q old = bufferOn (readOf file .table .tasks .count) (judgeOf file q) old
