@@ -89,7 +89,8 @@ fileOf c = encode (tableFor c)
 -- a claim, of the file's bytes and of the table that is read from them
 abbrev pub Claimed : List ℕ → Table → List ℕ → Claim → Type 0
 Claimed file t q (judged answer responses) = judgeOf file q ≡ record { judgement = answer; responses = column 24 (length responses) (λ j. getD responses j 0) }
-Claimed file t q (ends k x) = (service (run (tasksIn t) (alongside q k)) (x - 1) k 0 < tasksIn t .C k) × (service (run (tasksIn t) (alongside q k)) x k 0 ≡ tasksIn t .C k)
+Claimed file t q (ends k x) =
+    (service (run (tasksIn t) (alongside q k)) (x - 1) k 0 < tasksIn t .C k) × (service (run (tasksIn t) (alongside q k)) x k 0 ≡ tasksIn t .C k)
 Claimed file t q (late set) = LateSet (tasksIn t) (has set)
 Claimed file t q (minimal set) = Minimal (tasksIn t) set
 Claimed file t q (load p a b) = b * loadOn t (placed q) p ≡ a * t .hyperperiod
@@ -122,14 +123,21 @@ onOne p tasks claims = record { capacity = 0; processors = p ∷ []; tasks = tas
 
 -- a task on each of two processors, and messages between them
 abbrev pub onTwo : ℕ → List Task → List Message → List Claim → Case
-onTwo capacity tasks messages claims =
-    record { capacity = capacity; processors = processor 100 1000 ∷ processor 100 1000 ∷ []; tasks = tasks; messages = messages; placement = 0 ∷ 1 ∷ []; claims = claims }
+onTwo capacity tasks messages claims = record {
+  capacity = capacity;
+  processors = processor 100 1000 ∷ processor 100 1000 ∷ [];
+  tasks = tasks;
+  messages = messages;
+  placement = 0 ∷ 1 ∷ [];
+  claims = claims;
+}
 
 -- memory 10 and a processor of memory 100 and limit 1000, unless the case is about these
 abbrev pub cases : List Case
 cases =
     -- tasks (C, T, D) 1 4 4, 2 6 6, 3 12 10, falling priority, one processor: responses 1, 3, 10
-    onOne (processor 100 1000) (task 1 4 4 10 3 ∷ task 2 6 6 10 2 ∷ task 3 12 10 10 1 ∷ []) (judged Kept (1 ∷ 3 ∷ 10 ∷ []) ∷ ends 0 1 ∷ ends 1 3 ∷ ends 2 10 ∷ [])
+    onOne (processor 100 1000) (task 1 4 4 10 3 ∷ task 2 6 6 10 2 ∷ task 3 12 10 10 1 ∷ [])
+        (judged Kept (1 ∷ 3 ∷ 10 ∷ []) ∷ ends 0 1 ∷ ends 1 3 ∷ ends 2 10 ∷ [])
     -- with D 9 the set is a minimal conflict
     ∷ onOne (processor 100 1000) (task 1 4 4 10 3 ∷ task 2 6 6 10 2 ∷ task 3 12 9 10 1 ∷ []) (judged (Broken Deadline 2) (1 ∷ 3 ∷ 0 ∷ []) ∷ minimal 7 ∷ [])
     -- 2 4 4 and 2 4 4: responses 2, 4

@@ -68,9 +68,11 @@ pub record JudgeMeans (file q : List ℕ) (r : Judged) : Type 0 where
   -- the answer is 0 exactly if the file is read and the placement keeps the rules and has no late job
   pub kept : (judgementNumber (r .judgement) ≡ 0) ↔ Reads file (λ t. Good t q)
   -- it is a rule's number, and k the number concerned, exactly if that rule is the first broken one, and k the lowest number at which it is broken
-  pub broken : (rule : Rule) (k : ℕ) → ((judgementNumber (r .judgement) ≡ ruleNumber rule) × (concernedOf (r .judgement) ≡ k)) ↔ Reads file (λ t. FirstBroken t q rule k)
+  pub broken : (rule : Rule) (k : ℕ)
+      → ((judgementNumber (r .judgement) ≡ ruleNumber rule) × (concernedOf (r .judgement) ≡ k)) ↔ Reads file (λ t. FirstBroken t q rule k)
   -- it is a cause's number, with its place, exactly if that is the first cause to refuse the call
-  pub refused : (cause : Cause) (place : ℕ) → ((judgementNumber (r .judgement) ≡ causeNumber cause) × (concernedOf (r .judgement) ≡ place)) ↔ JudgeRefuses file q cause place
+  pub refused : (cause : Cause) (place : ℕ)
+      → ((judgementNumber (r .judgement) ≡ causeNumber cause) × (concernedOf (r .judgement) ≡ place)) ↔ JudgeRefuses file q cause place
   -- beside answer 0 the number concerned is 0, and beside 106
   pub kept-zero : judgementNumber (r .judgement) ≡ 0 → concernedOf (r .judgement) ≡ 0
   pub network-zero : judgementNumber (r .judgement) ≡ 106 → concernedOf (r .judgement) ≡ 0

@@ -22,7 +22,8 @@ demand s on i R = s .C i + sumTo (s .count) (share s on i R)
 unfoldable pub leastSolution : (ℕ → ℕ) → ℕ → ℕ
 leastSolution f d = firstFrom d (λ x. eqb (f x) x) 1
 
--- the same as a statement: r is the least solution, and at most d; or r is 0, and every solution is above d. It says so of all v with f v ≤ v, solutions among them.
+-- the same as a statement: r is the least solution, and at most d; or r is 0, and every solution is above d.
+-- It says so of all v with f v ≤ v, and the solutions are among them.
 pub data Least (f : ℕ → ℕ) (d r : ℕ) : Type 0 where
   solved : 0 < r → r ≤ d → f r ≡ r → ((v : ℕ) → f v ≤ v → r ≤ v) → Least f d r
   unsolved : r ≡ 0 → ((v : ℕ) → f v ≤ v → d < v) → Least f d r

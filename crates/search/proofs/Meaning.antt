@@ -95,28 +95,29 @@ module _ (file old new : List ℕ) (b : Bytes file) where
       h : (head : Head) × Headed t head
       h = headed s
 
-  pub search-meaning : (r : Answer) → Searched file old new r → SearchMeans file old new r
-  search-meaning r = go (readOf file .outcome) refl r
-    where
-      n : ℕ
-      n = readOf file .table .tasks .count
+pub search-meaning : (file old new : List ℕ) → Bytes file → (r : Answer) → Searched file old new r → SearchMeans file old new r
+search-meaning file old new b r = go (readOf file .outcome) refl r
+  where
+    n : ℕ
+    n = readOf file .table .tasks .count
 
-      same : {c : Cause} {p : ℕ} (cause : Cause) (place : ℕ) → Refused cause place ≡ Refused c p → SearchRefuses file old c p → SearchRefuses file old cause place
-      same {c} {p} cause place e x = let a : c ≡ cause = cc in let z : p ≡ place = cc in subst (λ (y : Cause). SearchRefuses file old y place) a (subst (SearchRefuses file old c) z x)
+    same : {c : Cause} {p : ℕ} (cause : Cause) (place : ℕ) → Refused cause place ≡ Refused c p → SearchRefuses file old c p → SearchRefuses file old cause place
+    same {c} {p} cause place e x = let a : c ≡ cause = cc in let z : p ≡ place = cc in subst (λ (y : Cause). SearchRefuses file old y place) a (subst (SearchRefuses file old c) z x)
 
-      by : readOf file .outcome ≡ outcomes.Readable → Dec (length old < n + 5) → (r : Answer) → AnsweredBy (ltb (length old) (n + 5)) (readOf file .table) old new r → SearchMeans file old new r
-      by h (yes l) (Refused cause place) a = let x = rw (lt-ltb (length old) (n + 5) l) at a in (same cause place (x .0) (too-short (h, l)), x .1)
-      by h (yes l) (Written count) a = let x = rw (lt-ltb (length old) (n + 5) l) at a in absurd (let e = x .0 in let z : _≡_ {A = ℕ} 0 1 = cc in omega arith)
-      by h (no l) (Refused cause place) a = let x = rw (le-ltb (length old) (n + 5) (omega arith)) at a in absurd (let e = x .count in let z : _≡_ {A = ℕ} 0 1 = cc in omega arith)
-      by h (no l) (Written count) a = right count h (omega arith) (rw (le-ltb (length old) (n + 5) (omega arith)) at a)
+    by : readOf file .outcome ≡ outcomes.Readable → Dec (length old < n + 5) → (r : Answer) → AnsweredBy (ltb (length old) (n + 5)) (readOf file .table) old new r → SearchMeans file old new r
+    by h (yes l) (Refused cause place) a = let x = rw (lt-ltb (length old) (n + 5) l) at a in (same cause place (x .0) (too-short (h, l)), x .1)
+    by h (yes l) (Written count) a = let x = rw (lt-ltb (length old) (n + 5) l) at a in absurd (let e = x .0 in let z : _≡_ {A = ℕ} 0 1 = cc in omega arith)
+    by h (no l) (Refused cause place) a = let x = rw (le-ltb (length old) (n + 5) (omega arith)) at a in absurd (let e = x .count in let z : _≡_ {A = ℕ} 0 1 = cc in omega arith)
+    by h (no l) (Written count) a = right file old new b count h (omega arith) (rw (le-ltb (length old) (n + 5) (omega arith)) at a)
 
-      go : (o : Outcome) → readOf file .outcome ≡ o → (r : Answer) → SearchedBy o (readOf file .table) old new r → SearchMeans file old new r
-      go (outcomes.Refused c p) h (Refused cause place) a = (same cause place (a .0) (unreadable h), a .1)
-      go (outcomes.Refused c p) h (Written count) a = absurd (let e = a .0 in let z : _≡_ {A = ℕ} 0 1 = cc in omega arith)
-      go outcomes.Readable h r a = by h (decLt (length old) (n + 5)) r a
+    go : (o : Outcome) → readOf file .outcome ≡ o → (r : Answer) → SearchedBy o (readOf file .table) old new r → SearchMeans file old new r
+    go (outcomes.Refused c p) h (Refused cause place) a = (same cause place (a .0) (unreadable h), a .1)
+    go (outcomes.Refused c p) h (Written count) a = absurd (let e = a .0 in let z : _≡_ {A = ℕ} 0 1 = cc in omega arith)
+    go outcomes.Readable h r a = by h (decLt (length old) (n + 5)) r a
 
 -- demand 3: `NO` exactly where no placement keeps the placement rules without a late job
-pub none-exactly : {file old new : List ℕ} {count : ℕ} (a : RightSearch file old new count) → (take 2 new ≡ 78 ∷ 79 ∷ []) ↔ ((q : List ℕ) → Good (a .table) q → ⊥)
+pub none-exactly : {file old new : List ℕ} {count : ℕ} (a : RightSearch file old new count)
+    → (take 2 new ≡ 78 ∷ 79 ∷ []) ↔ ((q : List ℕ) → Good (a .table) q → ⊥)
 none-exactly {file} {old} {new} a = go (a .head) (a .first) (a .bytes)
   where
     n : ℕ

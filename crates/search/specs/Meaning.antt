@@ -85,7 +85,8 @@ pub record RightSearch (file old new : List ℕ) (count : ℕ) : Type 0 where
   pub complete : Bool
   pub mark : RightMark table head (places (table .tasks .count) (length old)) conflicts complete
   -- the bytes: head, conflict records, end, and then what the buffer held; the count is n + 5 + 6 × the number of conflicts
-  pub bytes : new ≡ headBytes (table .tasks .count) head ++ records conflicts ++ endBytes complete ++ drop (countOf (table .tasks .count) (length conflicts)) old
+  pub bytes : new ≡ headBytes (table .tasks .count) head ++ records conflicts ++ endBytes complete
+      ++ drop (countOf (table .tasks .count) (length conflicts)) old
   pub counted : count ≡ countOf (table .tasks .count) (length conflicts)
 
 -- what the search answers on a file and a buffer that held old and now holds new; a refusal writes nothing
