@@ -1,11 +1,12 @@
 -- Laws of the table of known sets: how it starts, what a word of it says, what may be written. Assumes nothing.
-use mathlib.Core.Path.{_≡_, sym, subst}
+use mathlib.Core.Path.{_≡_, refl, sym, subst}
 use mathlib.Core.Bool.{Bool, true, false, _&&_}
 use mathlib.Core.List.{List}
 use Prim.Native.Nat.{ℕ, _+_, _*_, _/_, _%_, _^_, _≤_, _<_}
 use native.Mathlib.Nat.{lt-of-lt-of-le}
 use native.Mathlib.Omega.{arith}
 use native.Mathlib.Decide.{ℕ-discrete, decLt}
+use borrow.Author.Tests.{eq-eqb, ne-eqb}
 use mir.Val.{boolByte}
 use lib.Dec.{T, eqb, ltb→lt}
 use lib.Pow.{pow-mono}
@@ -17,7 +18,7 @@ use Rattle.mask.specs.Mask.{has}
 use Rattle.mask.proofs.Laws.{has-zero}
 use Rattle.schedule.specs.Periodic.{Tasks, LateSet}
 use Rattle.schedule.specs.Arrays.{InLimits, Says}
-use Rattle.known.specs.Known.{Knows}
+use Rattle.known.specs.Known.{Knows, placeOf, noted}
 
 -- a late set has a task
 late-member : {s : Tasks} {on : ℕ → Bool} → LateSet s on → (k : ℕ) × T (on k)
@@ -77,3 +78,14 @@ module _ {s : Tasks} {known : List ℕ} (k : Knows s known) where
   knows-hint {j} v h = record {
     says = λ i l. subst (Right s) (sym (getD-set-other known j i v 0 (λ e. omega arith))) (k .says i l);
   }
+
+-- ---- the table after a set was asked for: its word j has the set, or is written anew
+
+module _ (known : List ℕ) (late : Bool) {j x : ℕ} (e : j ≡ placeOf x) where
+  pub noted-hit : getD known j 0 / 2 ≡ x → known ≡ noted known x late
+  unfolding noted
+  noted-hit hit = rw (← e, eq-eqb _ x hit) refl
+
+  pub noted-miss : (getD known j 0 / 2 ≡ x → ⊥) → set known j (2 * x + boolByte late) ≡ noted known x late
+  unfolding noted
+  noted-miss miss = rw (← e, ne-eqb _ x miss) refl

@@ -1,8 +1,10 @@
 -- The table of sets that are known late or not late.
+use mathlib.Core.Bool.{Bool, cond}
 use mathlib.Core.List.{List}
-use Prim.Native.Nat.{ℕ, _/_, _%_, _<_}
+use Prim.Native.Nat.{ℕ, _+_, _*_, _/_, _%_, _<_}
+use mir.Val.{boolByte}
 use lib.Dec.{eqb}
-use lib.ListN.{getD}
+use lib.ListN.{getD, set}
 use Rattle.mask.specs.Mask.{has}
 use Rattle.schedule.specs.Periodic.{Tasks, LateSet}
 use Rattle.schedule.specs.Arrays.{Says}
@@ -11,3 +13,11 @@ use Rattle.schedule.specs.Arrays.{Says}
 -- A word 0 is the empty set, which is not late. Of the words behind them nothing is said.
 pub record Knows (s : Tasks) (known : List ℕ) : Type 0 where
   pub says : (j : ℕ) → j < 8192 → Says (eqb (getD known j 0 % 2) 1) (LateSet s (has (getD known j 0 / 2)))
+
+-- where a set stands: the high bits of a product (Fibonacci hashing)
+abbrev pub placeOf : ℕ → ℕ
+placeOf x = x * 2654435761 % 4294967296 / 524288
+
+-- the table after a set was asked for, with the verdict on it: as it was where its word has the set, else with that word anew
+unfoldable pub noted : List ℕ → ℕ → Bool → List ℕ
+noted known x late = cond (eqb (getD known (placeOf x) 0 / 2) x) known (set known (placeOf x) (2 * x + boolByte late))

@@ -1,9 +1,9 @@
 // A table of the sets that were tested for lateness, so that a set is seldom tested twice.
-ghost use Prim.Native.Nat.{_<_};
+ghost use mathlib.Core.Path.{_≡_};
 ghost use Rattle.mask.specs.Mask.{has};
 ghost use Rattle.schedule.specs.Periodic.{LateSet};
 ghost use Rattle.schedule.specs.Arrays.{tasksOf, InLimits, Says};
-ghost use Rattle.known.specs.Known.{Knows};
+ghost use Rattle.known.specs.Known.{Knows, placeOf, noted};
 use schedule::Timing;
 
 // 8,192 words for sets, and as many for hints, of which nothing is claimed.
@@ -11,7 +11,7 @@ pub type Known = [u32; 16384];
 
 // Where a set stands in a table of 8,192 words. Any place would do: no answer rests on it.
 pub fn place_of(set: u32) -> usize
-    ensures { λ r. ⌜ r < 8192 ⌝ }
+    ensures { λ r. ⌜ r ≡ placeOf set ⌝ }
 {
     (set as u64 * 2654435761 % 4294967296 / 524288) as usize
 }
@@ -19,7 +19,7 @@ pub fn place_of(set: u32) -> usize
 // Whether the set has a late job in the tick run: from the table, or worked out and put there.
 pub fn is_late(timing: &Timing, n: usize, set: u32, known: &mut Known) -> bool
     requires { ⌜ InLimits n (now timing) set × Knows (tasksOf n (now timing)) (now known) ⌝ }
-    ensures { λ r. ⌜ Says r (LateSet (tasksOf n (now (timing .entry))) (has set)) × Knows (tasksOf n (now (timing .entry))) (now (known .exit)) ⌝ }
+    ensures { λ r. ⌜ Says r (LateSet (tasksOf n (now (timing .entry))) (has set)) × Knows (tasksOf n (now (timing .entry))) (now (known .exit)) × (now (known .exit) ≡ noted (now (known .entry)) set r) ⌝ }
 {
     let at = place_of(set);
     let word = known[at];

@@ -1,12 +1,13 @@
 -- One conflict more in the list, and none at its start. Assumes nothing.
 use mathlib.Core.Path.{_≡_, refl, sym, ap, ap₂, _∙_}
-use mathlib.Core.Bool.{Bool}
+use mathlib.Core.Bool.{Bool, cond}
 use mathlib.Core.List.{List, [], _∷_, _++_}
 use Prim.Native.Nat.{ℕ, _+_, _*_, _^_, _≤_, _<_}
 use native.Mathlib.Decide.{decLt}
 use native.Mathlib.Numerals.{add-one}
 use native.Mathlib.Omega.{arith}
-use lib.Dec.{T}
+use borrow.Author.Tests.{ne-eqb}
+use lib.Dec.{T, eqb}
 use lib.ListN.{length, take, drop, take-append-drop}
 use lib.Seq.{length-take-le, drop-at, drop-drop}
 use Rattle.wire.specs.Wire.{recordBytes}
@@ -57,6 +58,9 @@ module _ {s : Tasks} {places count m : ℕ} {list new : List ℕ} (w : Ledger s 
       ap (λ (x : List ℕ). maskAt x count) parts
       ∙ number-behind front (conflictBytes m ++ later) (6 * count) 2 4 front-length
       ∙ number-at (78 ∷ 71 ∷ []) later 4 m 2 refl fits
+
+  pub list-appended : new ≡ cond (eqb (count + 1) count) list (laid (6 * count) (conflictBytes (maskAt new count)) list)
+  list-appended = rw (ne-eqb (count + 1) count (λ q. omega arith), mask-appended) e
 
   rest-stays : drop (6 * (count + 1)) new ≡ drop (6 * (count + 1)) list
   rest-stays =

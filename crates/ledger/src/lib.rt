@@ -2,13 +2,10 @@
 ghost use mathlib.Core.Path.{_≡_};
 ghost use Prim.Native.Nat.{_*_, _≤_};
 ghost use lib.ListN.{length};
-ghost use Rattle.finite.specs.Finite.{someBelow};
-ghost use Rattle.mask.specs.Mask.{within};
 ghost use Rattle.schedule.specs.Periodic.{Tasks};
 ghost use Rattle.schedule.specs.Arrays.{tasksOf, InLimits};
-ghost use Rattle.answer.specs.Answer.{maskAt};
 ghost use Rattle.known.specs.Known.{Knows};
-ghost use Rattle.ledger.specs.Ledger.{Ledger, Noted};
+ghost use Rattle.ledger.specs.Ledger.{Ledger, coveredBy, hinted, knownAfter, Noted};
 use known::Known;
 use schedule::Timing;
 
@@ -29,7 +26,8 @@ pub struct Tested {
 // A conflict is a set of at most 24 tasks, so its number has 24 bits.
 pub fn covered(list: &[u8], count: usize, set: u32, known: &mut Known) -> bool
     requires { ⌜ 6 * count ≤ length (now list) ⌝ }
-    ensures { λ r. ⌜ (r ≡ someBelow count (λ j. within (maskAt (now (list .entry)) j) set)) × ((s : Tasks) → Knows s (now (known .entry)) → Knows s (now (known .exit))) ⌝ }
+    ensures { λ r. ⌜ (r ≡ coveredBy (now (list .entry)) count set) × ((s : Tasks) → Knows s (now (known .entry)) → Knows s (now (known .exit)))
+        × (now (known .exit) ≡ hinted (now (known .entry)) (now (list .entry)) count set) ⌝ }
 {
     let at = 8192 + known::place_of(set);
     let hint = (known[at] % 16777216) as usize;
@@ -52,7 +50,8 @@ pub fn test(
     known: &mut Known,
 ) -> Tested
     requires { ⌜ InLimits n (now timing) set × Ledger (tasksOf n (now timing)) (mode .places) (now list) count × Knows (tasksOf n (now timing)) (now known) ⌝ }
-    ensures { λ r. ⌜ Noted (tasksOf n (now (timing .entry))) (mode .listing) (mode .places) set (now (list .entry)) count (now (list .exit)) r × Knows (tasksOf n (now (timing .entry))) (now (known .exit)) ⌝ }
+    ensures { λ r. ⌜ Noted (tasksOf n (now (timing .entry))) (mode .listing) (mode .places) set (now (list .entry)) count (now (list .exit)) r × Knows (tasksOf n (now (timing .entry))) (now (known .exit))
+        × (now (known .exit) ≡ knownAfter (tasksOf n (now (timing .entry))) (mode .listing) set (now (list .entry)) count (now (known .entry))) ⌝ }
 {
     if !known::is_late(timing, n, set, known) {
         return Tested { bad: false, count };

@@ -1,11 +1,12 @@
 -- What the table of bounds says: at first nothing; what is found in it; with one entry written anew. Assumes nothing.
-use mathlib.Core.Path.{_≡_, refl, sym, subst, _∙_}
+use mathlib.Core.Path.{_≡_, refl, sym, ap, subst, _∙_}
 use mathlib.Core.Logic.{_≢_}
+use mathlib.Core.Bool.{Bool, true}
 use mathlib.Core.List.{List, [], _∷_}
 use Prim.Native.Nat.{ℕ, zero, suc, _+_, _*_, _≤_, _<_}
 use native.Mathlib.Decide.{ℕ-discrete}
 use native.Mathlib.Omega.{arith}
-use lib.Dec.{T}
+use lib.Dec.{T, eqb, eqb→eq}
 use lib.ListN.{length, getD, set, replicate, length-set, length-replicate}
 use lib.Seq.{getD-set-same, getD-set-other}
 use Rattle.finite.proofs.Sum.{sum-zero}
@@ -13,12 +14,14 @@ use Rattle.finite.proofs.Only.{only-out}
 use Rattle.finite.proofs.Stored.{zeros}
 use Rattle.mask.specs.Mask.{has, Subset}
 use Rattle.mask.proofs.Laws.{has-zero}
+use Rattle.mask.proofs.Tests.{and-left, and-right}
 use Rattle.table.specs.declared.Table.{Table}
 use Rattle.timing.specs.Timing.{tasksIn}
 use Rattle.known.specs.Known.{Knows}
 use Rattle.packing.specs.Packing.{weightOf}
 use Rattle.packing.proofs.Taking.{weight-less}
-use Rattle.memo.specs.Memo.{Capped, Entry, Key, Memo, Learnt}
+use Rattle.memo.specs.declared.Recalled.{Recalled}
+use Rattle.memo.specs.Memo.{Capped, Entry, Memo, Learnt, entryOf, isFor, recallOf, keepOf}
 
 -- no task
 pub weight-none : (n : ℕ) (weights : List ℕ) → weightOf n weights 0 ≡ 0
@@ -40,14 +43,38 @@ learnt-start k = record { knows = k; keeps = memo-start }
 
 -- ---- what is found
 
-pub recalled : {t : Table} {columns : List (List ℕ)} {memo : List ℕ} {j on candidates row space spare : ℕ} → Memo t columns memo → j < 2048 → Key memo (6 * j) on candidates row space spare
-    → Capped t columns on candidates row space spare (getD memo (6 * j + 5) 0)
-recalled {j = j} m l k = rw (k .same-on, k .same-candidates, k .same-row, k .same-space, k .same-spare) at (m .entries j l)
+entry-low : (on candidates row space : ℕ) → entryOf on candidates row space < 2048
+unfolding entryOf
+entry-low on candidates row space = omega arith
+
+pub recalled : {t : Table} {columns : List (List ℕ)} {memo : List ℕ} {on candidates row space spare : ℕ} {r : Recalled} → Memo t columns memo → r ≡ recallOf memo on candidates row space spare
+    → r .hit ≡ true → Capped t columns on candidates row space spare (r .top)
+unfolding isFor
+recalled {t} {columns} {memo} {on} {candidates} {row} {space} {spare} {r} m e hit = rw e (found (rw (← ap (λ (x : Recalled). x .hit) e, hit) tt))
+  where
+    j : ℕ
+    j = entryOf on candidates row space
+
+    at : ℕ → ℕ → Bool
+    at k v = eqb (getD memo (6 * j + k) 0) v
+
+    found : T (isFor memo (6 * j) on candidates row space spare) → Capped t columns on candidates row space spare (getD memo (6 * j + 5) 0)
+    found u =
+        let v = and-right (eqb (getD memo (6 * j) 0) on) _ u in
+        let w = and-right (at 1 candidates) _ v in
+        let x = and-right (at 2 row) _ w in
+        rw (
+          eqb→eq _ on (and-left (eqb (getD memo (6 * j) 0) on) _ u),
+          eqb→eq _ candidates (and-left (at 1 candidates) _ v),
+          eqb→eq _ row (and-left (at 2 row) _ w),
+          eqb→eq _ space (and-left (at 3 space) _ x),
+          eqb→eq _ spare (and-right (at 3 space) _ x),
+        ) at (m .entries j (entry-low on candidates row space))
 
 -- ---- one entry written anew
 
 -- the numbers vs stored one after another, from the i-th place after `start` on
-abbrev pub stored : List ℕ → ℕ → ℕ → List ℕ → List ℕ
+abbrev stored : List ℕ → ℕ → ℕ → List ℕ → List ℕ
 stored memo start i [] = memo
 stored memo start i (v ∷ vs) = stored (set memo (start + i) v) start (suc i) vs
 
@@ -63,10 +90,16 @@ stored-same (v ∷ vs) memo start i zero x l e h =
     stored-other vs (set memo (start + i) v) start (suc i) x (λ k _ o. omega arith) ∙ subst (λ (y : ℕ). getD (set memo y v) x 0 ≡ v) (sym here) (getD-set-same memo x v 0 h)
 stored-same (v ∷ vs) memo start i (suc k) x l e h = stored-same vs (set memo (start + i) v) start (suc i) k x (omega arith) (omega arith) (simp length-set h)
 
-pub memo-keep : {t : Table} {columns : List (List ℕ)} {memo : List ℕ} {j on candidates row space spare top : ℕ} → Memo t columns memo → j < 2048 → Capped t columns on candidates row space spare top
-    → Memo t columns (stored (set memo (6 * j) on) (6 * j) 1 (candidates ∷ row ∷ space ∷ spare ∷ top ∷ []))
-memo-keep {t} {columns} {memo} {j} {on} {candidates} {row} {space} {spare} {top} m low c = record { long = simp length-set (m .long); entries = λ i l. go i l (ℕ-discrete i j) }
+pub memo-keep : {t : Table} {columns : List (List ℕ)} {memo : List ℕ} (on candidates row space spare top : ℕ) → Memo t columns memo → Capped t columns on candidates row space spare top
+    → Memo t columns (keepOf memo on candidates row space spare top)
+memo-keep {t} {columns} {memo} on candidates row space spare top m c = record { long = simp length-set (m .long); entries = λ i l. go i l (ℕ-discrete i j) }
   where
+    j : ℕ
+    j = entryOf on candidates row space
+
+    low : j < 2048
+    low = entry-low on candidates row space
+
     numbers : List ℕ
     numbers = candidates ∷ row ∷ space ∷ spare ∷ top ∷ []
 
@@ -74,10 +107,10 @@ memo-keep {t} {columns} {memo} {j} {on} {candidates} {row} {space} {spare} {top}
     new = stored (set memo (6 * j) on) (6 * j) 1 numbers
 
     same : (k : ℕ) → k < 5 → getD new (6 * j + (1 + k)) 0 ≡ getD numbers k 0
-    same k l = stored-same numbers (set memo (6 * j) on) (6 * j) 1 k _ l refl (simp length-set (omega arith))
+    same k l = stored-same numbers (set memo (6 * j) on) (6 * j) 1 k _ l refl (simp length-set (omega (arith, low)))
 
     same-on : getD new (6 * j) 0 ≡ on
-    same-on = stored-other numbers (set memo (6 * j) on) (6 * j) 1 (6 * j) (λ k l e. omega arith) ∙ getD-set-same memo (6 * j) on 0 (omega arith)
+    same-on = stored-other numbers (set memo (6 * j) on) (6 * j) 1 (6 * j) (λ k l e. omega arith) ∙ getD-set-same memo (6 * j) on 0 (omega (arith, low))
 
     other : (i x : ℕ) → i ≢ j → 6 * i ≤ x → x < 6 * i + 6 → getD new x 0 ≡ getD memo x 0
     other i x d l h = stored-other numbers (set memo (6 * j) on) (6 * j) 1 x (λ k u e. d (omega arith)) ∙ getD-set-other memo (6 * j) x on 0 (λ e. d (omega arith))

@@ -1,8 +1,10 @@
 -- What is kept of the bounds on what a processor can take, and of the sets known late: what the search has learnt.
 use mathlib.Core.Path.{_≡_}
+use mathlib.Core.Bool.{Bool, _&&_}
 use mathlib.Core.List.{List}
-use Prim.Native.Nat.{ℕ, _+_, _*_, _≤_, _<_}
-use lib.ListN.{length, getD}
+use Prim.Native.Nat.{ℕ, _+_, _*_, _/_, _%_, _≤_, _<_}
+use lib.Dec.{eqb}
+use lib.ListN.{length, getD, set}
 use Rattle.mask.specs.Mask.{Subset}
 use Rattle.table.specs.declared.Table.{Table}
 use Rattle.schedule.specs.Periodic.{LateSet}
@@ -10,6 +12,7 @@ use Rattle.timing.specs.Timing.{tasksIn}
 use Rattle.columns.specs.Columns.{loadsOf, exclusionsOf, weightsIn}
 use Rattle.known.specs.Known.{Knows}
 use Rattle.packing.specs.Packing.{weightOf, Takes}
+use Rattle.memo.specs.declared.Recalled.{Recalled}
 
 -- top bounds the weight, by a row of weights, of the candidates that can join the tasks on a processor with that much memory (space) and load (spare) left
 pub record Capped (t : Table) (columns : List (List ℕ)) (on candidates row space spare top : ℕ) : Type 0 where
@@ -20,14 +23,6 @@ pub record Capped (t : Table) (columns : List (List ℕ)) (on candidates row spa
 abbrev pub Entry : Table → List (List ℕ) → List ℕ → ℕ → Type 0
 Entry t columns memo j = Capped t columns (getD memo j 0) (getD memo (j + 1) 0) (getD memo (j + 2) 0) (getD memo (j + 3) 0) (getD memo (j + 4) 0) (getD memo (j + 5) 0)
 
--- the entry at j is for these tasks, candidates and row, and for so much memory and load left
-pub record Key (memo : List ℕ) (j on candidates row space spare : ℕ) : Type 0 where
-  pub same-on : getD memo j 0 ≡ on
-  pub same-candidates : getD memo (j + 1) 0 ≡ candidates
-  pub same-row : getD memo (j + 2) 0 ≡ row
-  pub same-space : getD memo (j + 3) 0 ≡ space
-  pub same-spare : getD memo (j + 4) 0 ≡ spare
-
 -- 2,048 entries, each of them true; one of zeros has no candidates
 pub record Memo (t : Table) (columns : List (List ℕ)) (memo : List ℕ) : Type 0 where
   pub long : length memo ≡ 12288
@@ -37,3 +32,26 @@ pub record Memo (t : Table) (columns : List (List ℕ)) (memo : List ℕ) : Type
 pub record Learnt (t : Table) (columns : List (List ℕ)) (known memo : List ℕ) : Type 0 where
   pub knows : Knows (tasksIn t) known
   pub keeps : Memo t columns memo
+
+-- the number of the entry for these tasks, candidates, row and memory left: the high bits of a sum of products
+unfoldable pub entryOf : ℕ → ℕ → ℕ → ℕ → ℕ
+entryOf on candidates row space =
+    (on * 2654435761 % 4294967296 + candidates * 2246822519 % 4294967296 + space % 4294967296 * 3266489917 % 4294967296 + row % 4096 * 668265263) % 4294967296 / 2097152
+
+-- the entry that begins at j is for these tasks, candidates and row, and for so much memory and load left
+unfoldable pub isFor : List ℕ → ℕ → ℕ → ℕ → ℕ → ℕ → ℕ → Bool
+isFor memo j on candidates row space spare =
+    eqb (getD memo j 0) on
+    && (eqb (getD memo (j + 1) 0) candidates && (eqb (getD memo (j + 2) 0) row && (eqb (getD memo (j + 3) 0) space && eqb (getD memo (j + 4) 0) spare)))
+
+-- what is found for them: whether their entry is for them, and its bound
+abbrev pub recallOf : List ℕ → ℕ → ℕ → ℕ → ℕ → ℕ → Recalled
+recallOf memo on candidates row space spare =
+    let j = 6 * entryOf on candidates row space in
+    record { hit = isFor memo j on candidates row space spare; top = getD memo (j + 5) 0 }
+
+-- the table with their entry anew
+abbrev pub keepOf : List ℕ → ℕ → ℕ → ℕ → ℕ → ℕ → ℕ → List ℕ
+keepOf memo on candidates row space spare top =
+    let j = 6 * entryOf on candidates row space in
+    set (set (set (set (set (set memo j on) (j + 1) candidates) (j + 2) row) (j + 3) space) (j + 4) spare) (j + 5) top

@@ -1,11 +1,7 @@
 // What is kept of the bounds on what a processor can take, so that they are seldom worked out twice.
 ghost use mathlib.Core.Path.{_≡_};
-ghost use mathlib.Core.Bool.{true};
-ghost use mathlib.Core.List.{List};
-ghost use Prim.Native.Nat.{ℕ, _≤_, _<_};
-ghost use lib.Dec.{T};
-ghost use Rattle.table.specs.declared.Table.{Table};
-ghost use Rattle.memo.specs.Memo.{Capped, Memo, Key};
+ghost use Prim.Native.Nat.{_≤_, _<_};
+ghost use Rattle.memo.specs.Memo.{entryOf, isFor, recallOf, keepOf};
 use numbers::wide;
 
 // 2,048 bounds, each with what it was worked out from.
@@ -19,7 +15,7 @@ pub struct Recalled {
 
 // The entry for these tasks, candidates, row and memory left. Any entry would do: no answer rests on it.
 fn entry_of(on: u32, candidates: u32, row: usize, space: u64) -> usize
-    ensures { λ r. ⌜ r < 2048 ⌝ }
+    ensures { λ r. ⌜ (r ≡ entryOf on candidates row space) × (r < 2048) ⌝ }
 {
     let tasks = wide(on) * 2654435761 % 4294967296;
     let open = wide(candidates) * 2246822519 % 4294967296;
@@ -40,7 +36,7 @@ fn is_for(
     spare: u64,
 ) -> bool
     requires { ⌜ j ≤ 12282 ⌝ }
-    ensures { λ r. ⌜ (T r → Key (now (memo .entry)) j on candidates row space spare) ⌝ }
+    ensures { λ r. ⌜ r ≡ isFor (now (memo .entry)) j on candidates row space spare ⌝ }
 {
     if memo[j] != wide(on) {
         return false;
@@ -62,7 +58,7 @@ fn is_for(
 
 // The bound that is kept for these tasks, candidates and row, with that much memory (space) and load (spare) left.
 pub fn recall(on: u32, candidates: u32, row: usize, space: u64, spare: u64, memo: &Memo) -> Recalled
-    ensures { λ r. ⌜ (r .hit ≡ true → (t : Table) (columns : List (List ℕ)) → Memo t columns (now (memo .entry)) → Capped t columns on candidates row space spare (r .top)) ⌝ }
+    ensures { λ r. ⌜ r ≡ recallOf (now (memo .entry)) on candidates row space spare ⌝ }
 {
     let j = 6 * entry_of(on, candidates, row, space);
     Recalled {
@@ -73,7 +69,7 @@ pub fn recall(on: u32, candidates: u32, row: usize, space: u64, spare: u64, memo
 
 // Keeps a bound, in the place of another.
 pub fn keep(on: u32, candidates: u32, row: usize, space: u64, spare: u64, top: u64, memo: &mut Memo)
-    ensures { λ _. ⌜ ((t : Table) (columns : List (List ℕ)) → Memo t columns (now (memo .entry)) → Capped t columns on candidates row space spare top → Memo t columns (now (memo .exit))) ⌝ }
+    ensures { λ _. ⌜ now (memo .exit) ≡ keepOf (now (memo .entry)) on candidates row space spare top ⌝ }
 {
     let j = 6 * entry_of(on, candidates, row, space);
     memo[j] = wide(on);

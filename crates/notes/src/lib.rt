@@ -1,8 +1,8 @@
 // What the search notes on its way: failure weights and the state of its random numbers. No answer rests on them.
 ghost use mathlib.Core.Path.{_≡_};
-ghost use Prim.Native.Nat.{_<_};
+ghost use Prim.Native.Nat.{_/_, _<_};
 ghost use lib.ListN.{getD, set};
-ghost use Rattle.notes.specs.Notes.{heavier};
+ghost use Rattle.notes.specs.Notes.{heavier, nextState};
 use numbers::wide;
 
 // The tasks' failure weights; from 24 on the random numbers' state, the credit and the skips of the bound, the fuel; from 32 on a copy of these.
@@ -20,7 +20,7 @@ fn heavier(weight: u32) -> u32
 
 // The failure weight of task k grows: no processor could take it.
 pub fn blame(notes: &mut Notes, k: usize)
-    requires { ⌜ k < 64 ⌝ }
+    requires { ⌜ k < 24 ⌝ }
     ensures { λ _. ⌜ now (notes .exit) ≡ set (now (notes .entry)) k (heavier (getD (now (notes .entry)) k 0)) ⌝ }
 {
     notes[k] = heavier(notes[k]);
@@ -28,7 +28,7 @@ pub fn blame(notes: &mut Notes, k: usize)
 
 // A pseudo-random number below 128: the high bits of a linear congruential generator.
 pub fn noise(notes: &mut Notes) -> u64
-    ensures { λ r. ⌜ r < 128 ⌝ }
+    ensures { λ r. ⌜ (r ≡ nextState (getD (now (notes .entry)) 24 0) / 16777216) × (now (notes .exit) ≡ set (now (notes .entry)) 24 (nextState (getD (now (notes .entry)) 24 0))) ⌝ }
 {
     let next = (wide(notes[24]) * 1103515245 + 12345) % 2147483648;
     notes[24] = next as u32;

@@ -34,9 +34,9 @@ score-spec =
     (λ c κs. search needs)  -- noise-requires
     (λ c.
     let a = c .before .before .before .before .before in
-    record { fits = omega (arith, product (a .args .choices) (c .before .before .before .before .wide .result + c .before .before .wide2 .result + 1) (c .noise .result) (a .pre .0) (c .noise .ensures)) })  -- mul-result
+    record { fits = omega (arith, product (a .args .choices) (c .before .before .before .before .wide .result + c .before .before .wide2 .result + 1) (c .noise .result) (a .pre .0) (omega arith)) })  -- mul-result
     (λ c.
     let a = c .before .before .before .before .before in
     let w = c .before .before .before .before .wide .result + c .before .before .wide2 .result + 1 in
-    record { fits = omega (arith, quotient (a .args .choices) w (a .pre .0), product (a .args .choices) w (c .noise .result) (a .pre .0) (c .noise .ensures)) })  -- add-result
+    record { fits = omega (arith, quotient (a .args .choices) w (a .pre .0), product (a .args .choices) w (c .noise .result) (a .pre .0) (omega arith)) })  -- add-result
     (λ c. search needs))  -- returns

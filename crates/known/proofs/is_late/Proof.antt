@@ -1,7 +1,7 @@
 -- A word with the set tells whether it is late; the word written in its place does so too.
 use borrow.Author.Needs.{needs}
 use native.Mathlib.Omega.{arith}
-use Rattle.known.proofs.Laws.{small-set, bool-small, knows-hit, knows-set}
+use Rattle.known.proofs.Laws.{small-set, bool-small, knows-hit, knows-set, noted-hit, noted-miss}
 use Rattle.known.proofs.is_late.Statement.{statement}
 use Rattle.known.proofs.is_late.Tie as tie
 
@@ -14,7 +14,7 @@ is-late-spec =
     (λ c. search needs)  -- element-copy-out-word
     (λ c. let p = c .before .before in
     let k = p .before .pre .1 in
-    (knows-hit k (p .place-of .ensures) (c .if1 .taken), k))  -- returns
+    (knows-hit k (omega arith) (c .if1 .taken), k, noted-hit _ _ (p .place-of .ensures) (c .if1 .taken)))  -- returns
     (λ c κs. search needs)  -- is-late-requires
     (λ c. omega (arith, small-set (c .before .before .before .before .pre .0)))  -- mul-known
     (λ c. search needs)  -- cast-known
@@ -23,4 +23,4 @@ is-late-spec =
     (λ c. search needs)  -- element-write-known
     (λ c. let p = c .before .before .before in
     let a = p .before .args in
-    (c .is-late .ensures, knows-set (p .before .pre .1) (p .place-of .result) (a .set) (c .is-late .result) (c .is-late .ensures))))  -- returns-2
+    (c .is-late .ensures, knows-set (p .before .pre .1) (p .place-of .result) (a .set) (c .is-late .result) (c .is-late .ensures), noted-miss _ (c .is-late .result) (p .place-of .ensures) (c .before .if1 .left))))  -- returns-2

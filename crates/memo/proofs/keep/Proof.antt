@@ -1,6 +1,6 @@
 -- The entry's six numbers are stored one after another.
+use mathlib.Core.Path.{refl}
 use borrow.Author.Needs.{needs}
-use Rattle.memo.proofs.Laws.{memo-keep}
 use Rattle.memo.proofs.keep.Statement.{statement}
 use Rattle.memo.proofs.keep.Tie as tie
 
@@ -29,4 +29,4 @@ keep-spec =
     (λ c. search needs)  -- add-memo-5
     (λ c. search needs)  -- mul-memo-6
     (λ c. search needs)  -- element-write-memo-6
-    (λ c t guide m h. let z = c .before .before in memo-keep m (z .entry-of .ensures) (rw (c .before .wide .ensures .0, c .wide2 .ensures .0) h)))  -- returns
+    (λ c. rw (c .before .before .entry-of .ensures .0, c .before .wide .ensures .0, c .wide2 .ensures .0) refl))  -- returns

@@ -1,6 +1,6 @@
--- Where the entry's five numbers are those that are asked for, its bound is one for them.
+-- The entry is looked at where its number says.
+use mathlib.Core.Path.{refl}
 use borrow.Author.Needs.{needs}
-use Rattle.memo.proofs.Laws.{recalled}
 use Rattle.memo.proofs.recall.Statement.{statement}
 use Rattle.memo.proofs.recall.Tie as tie
 
@@ -13,5 +13,5 @@ recall-spec =
     (λ c κs. search needs)  -- is-for-requires
     (λ c. search needs)  -- add-t8
     (λ c. search needs)  -- mul-t10
-    (λ c. search needs)  -- element-copy-out-t10
-    (λ c e t guide m. let z = c .before .before in recalled m (z .entry-of .ensures) (c .before .is-for .ensures (rw e tt))))  -- returns
+    (λ c. search needs)  -- element-copy-out-t13
+    (λ c. rw (c .before .is-for .ensures, c .before .before .entry-of .ensures .0) refl))  -- returns

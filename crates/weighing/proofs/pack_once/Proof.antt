@@ -1,6 +1,7 @@
 -- The bound that is kept, or what the packing finds, which is kept then.
 use mathlib.Core.Path.{refl}
 use borrow.Author.Needs.{needs}
+use Rattle.memo.proofs.Laws.{recalled, memo-keep}
 use Rattle.weighing.proofs.Weighted.{lower-is}
 use Rattle.weighing.proofs.Tightening.{tight-recalled, tight-capped}
 use Rattle.weighing.proofs.pack_once.Statement.{statement}
@@ -26,7 +27,7 @@ pack-once-spec =
     let y = c .before .before in
     let z = y .before .before .before .before .before .before in
     λ t l w k. (
-      tight-recalled (w .holds) (rw (← l .rules .processors) (z .pre .2)) (z .pre .3) refl (w .ledger) (y .recall .ensures (c .before .if1 .taken) t _ (k .keeps)) (lower-is _ _ (c .lower .ensures)),
+      tight-recalled (w .holds) (rw (← l .rules .processors) (z .pre .2)) (z .pre .3) refl (w .ledger) (recalled (k .keeps) (y .recall .ensures) (c .before .if1 .taken)) (lower-is _ _ (c .lower .ensures)),
       k,
     ))  -- returns
     (λ c κs.
@@ -39,4 +40,4 @@ pack-once-spec =
     let z = x .before .before .before .before .before .before .before .before .before .before in
     λ t l w k.
     let a = x .pack .ensures t l w (k .knows) in
-    (a .0, record { knows = a .1; keeps = c .keep .ensures t _ (k .keeps) (tight-capped (x .pack .result) (z .pre .3) refl (a .0)) })))  -- returns-2
+    (a .0, record { knows = a .1; keeps = rw (c .keep .ensures) (memo-keep _ _ _ _ _ _ (k .keeps) (tight-capped (x .pack .result) (z .pre .3) refl (a .0))) })))  -- returns-2

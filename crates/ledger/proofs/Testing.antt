@@ -1,0 +1,43 @@
+-- The test of a set: its answer, the list and the table of known sets afterwards, by what it asked in turn. Assumes nothing.
+use mathlib.Core.Path.{_≡_, refl}
+use mathlib.Core.Bool.{Bool, true, false, _&&_}
+use mathlib.Core.Logic.{inl}
+use mathlib.Core.List.{List}
+use Prim.Native.Nat.{ℕ}
+use borrow.Author.Tests.{eq-eqb}
+use lib.Dec.{eqb}
+use Rattle.mask.specs.Mask.{has}
+use Rattle.schedule.specs.Periodic.{Tasks, LateSet}
+use Rattle.schedule.specs.Response.{lateTest}
+use Rattle.known.specs.Known.{noted}
+use Rattle.ledger.specs.Ledger.{coveredBy, hinted, testBy, testOf, knownAfter, Ledger, Clear, Verdict, Noted}
+use Rattle.ledger.proofs.Growth.{grows-refl}
+
+module _ {s : Tasks} {places count : ℕ} {list : List ℕ} (w : Ledger s places list count) (listing : Bool) (x : ℕ) where
+  module _ {late : Bool} (is-late : late ≡ lateTest s (has x)) where
+    pub test-is : {listed covered full : Bool} → listed ≡ listing → covered ≡ coveredBy list count x → full ≡ eqb count places
+        → testBy late listed covered full count ≡ testOf s listing places x list count
+    unfolding testOf
+    test-is l c f = rw (is-late, l, c, f) refl
+
+    pub known-asked : (known : List ℕ) {after : List ℕ} → (late && listing) ≡ false → after ≡ noted known x late → after ≡ knownAfter s listing x list count known
+    unfolding knownAfter
+    known-asked known e a = rw (← is-late, e) a
+
+    pub known-looked : (known : List ℕ) {asked after : List ℕ} → (late && listing) ≡ true → asked ≡ noted known x late → after ≡ hinted asked list count x
+        → after ≡ knownAfter s listing x list count known
+    unfolding knownAfter
+    known-looked known e a b = rw (← is-late, e, ← a) b
+
+  -- the list stays as it is
+  pub unchanged : {b : Bool} → record { bad = b; count = count } ≡ testOf s listing places x list count → Verdict b s listing places list count (has x)
+      → Noted s listing places x list count list (record { bad = b; count = count })
+  unchanged e v = record { value = e; list = rw (eq-eqb count count refl) refl; ledger = w; grows = grows-refl; verdict = v }
+
+  -- a set that is not late may stand, whether conflicts are listed or not
+  pub in-time : (LateSet s (has x) → ⊥) → Clear s listing places list count (has x)
+  in-time f = go listing
+    where
+      go : (b : Bool) → Clear s b places list count (has x)
+      go false = f
+      go true = inl f
