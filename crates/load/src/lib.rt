@@ -36,7 +36,7 @@ impl Load {
 
     // Whether the load is above so many thousandths of a full one.
     pub fn exceeds(self, limit: u32, h: u64) -> bool
-        requires { ⌜ (limit ≤ 1000) × (h ≤ 1000000000) × (self .0 ≤ 24 * 1000000000) ⌝ }
+        requires { ⌜ (limit ≤ 1000) × (1 ≤ h) × (h ≤ 1000000000) × (self .0 ≤ 24 * 1000000000) ⌝ }
         ensures { λ r. ⌜ r ≡ ltb (limit * h) (1000 * self .0) ⌝ }
     {
         let full = Load::full(h);

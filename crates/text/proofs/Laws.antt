@@ -101,7 +101,7 @@ room-one most x l h = ap length (digits-one most x l h)
 pub room-more : (most x : ℕ) → 0 < most → 10 ≤ x → length (digits most x) ≡ length (digits (most - 1) (x / 10)) + 1
 room-more most x l h = ap length (digits-more most x l h) ∙ length-append (digits (most - 1) (x / 10)) ((48 + x % 10) ∷ [])
 
-pub digits-few : (most x : ℕ) → length (digits most x) ≤ most
+digits-few : (most x : ℕ) → length (digits most x) ≤ most
 unfolding digits
 digits-few zero x = omega arith
 digits-few (suc most) x = go (ltb x 10) (digits-few most (x / 10))
@@ -109,6 +109,10 @@ digits-few (suc most) x = go (ltb x 10) (digits-few most (x / 10))
     go : (b : Bool) → length (digits most (x / 10)) ≤ most → length (cond b ((48 + x) ∷ []) (digits most (x / 10) ++ ((48 + x % 10) ∷ []))) ≤ suc most
     go true h = omega arith
     go false h = omega (arith, length-append (digits most (x / 10)) ((48 + x % 10) ∷ []), h)
+
+-- where they end
+pub put-few : (most x : ℕ) {old new : List ℕ} {at end : ℕ} → Put old at (digits most x) new end → end ≤ at + most
+put-few most x p = omega (arith, p .ends, digits-few most x)
 
 -- two are enough below 100
 pub decimal-two : (x : ℕ) → x < 100 → length (decimal x) ≤ 2

@@ -9,6 +9,7 @@ use Rattle.table.specs.declared.Table.{Table}
 use Rattle.table.specs.Sound.{Sound}
 use Rattle.rules.specs.Rules.{residenceBroken, coResidenceBroken, exclusionBroken, memoryOn, memoryBroken, loadOn, utilisationBroken, networkBroken}
 use Rattle.rules.specs.Sets.{outsideOf, memoryOf, loadOf, Works}
+use Rattle.rules.proofs.Bounds.{some-tick}
 use Rattle.rules.proofs.Sets.{group-apart, group-together}
 use Rattle.checking.proofs.breaks.Statement.{statement}
 use Rattle.checking.proofs.breaks.Tie as tie
@@ -72,7 +73,7 @@ breaks-spec =
     (λ c κs. let s = c .before .before .before .before .before .before in (works (s .pre .0), s .pre .0 .hyperperiod-most))  -- load-of-requires
     (λ c. record { fits = omega (arith, with-limit (c .before)) })  -- mul-exceeds
     (λ c. with-limit (c .before))  -- element-copy-out-exceeds
-    (λ c κs. let s = c .before .before .before .before .before .before .before .before in (s .pre .0 .processors .most-limit _ (rw (c .before .before .enum-told5 .given .1) at (s .pre .1)), s .pre .0 .hyperperiod-most, omega (arith, c .before .load-of .ensures, s .pre .0 .hyperperiod-most)))  -- exceeds-requires
+    (λ c κs. let s = c .before .before .before .before .before .before .before .before in (s .pre .0 .processors .most-limit _ (rw (c .before .before .enum-told5 .given .1) at (s .pre .1)), some-tick (s .pre .0), s .pre .0 .hyperperiod-most, omega (arith, c .before .load-of .ensures, s .pre .0 .hyperperiod-most)))  -- exceeds-requires
     (λ c. search needs)  -- enum-told-6
     (λ c κs. search needs)  -- wide-requires-2
     (λ c. let s = c .before .before .before .before .before .before .before in record { fits = omega (arith, mul-le-mul {n₁ = c .wide2 .result} {m₁ = s .args .t .hyperperiod} {n₂ = 4294967295} {m₂ = 1000000000} (omega (arith, c .wide2 .ensures)) (s .pre .0 .hyperperiod-most)) })  -- mul-result

@@ -1,7 +1,7 @@
 -- `put_item` meets its contract.
 use native.Mathlib.Omega.{arith}
 use borrow.Author.Needs.{needs}
-use Rattle.text.proofs.Laws.{put-then, digits-few}
+use Rattle.text.proofs.Laws.{put-then, put-few}
 use Rattle.lines.proofs.put_item.Statement.{statement}
 use Rattle.lines.proofs.put_item.Tie as tie
 
@@ -14,4 +14,4 @@ put-item-spec =
     (λ c. search needs)  -- same-length
     (λ c. let v = c .before .before in
     let u = v .before .before .before .before in
-    (put-then (u .put .ensures) (v .put-decimal .ensures), omega (arith, u .put .ensures .ends, v .put-decimal .ensures .ends, digits-few 20 (u .before .before .before .before .args .x)))))  -- returns
+    (put-then (u .put .ensures) (v .put-decimal .ensures), omega (arith, u .put .ensures .ends, put-few _ _ (v .put-decimal .ensures)))))  -- returns

@@ -4,11 +4,11 @@ use Prim.Native.Nat.{ℕ, _+_, _*_, _-_, _≤_}
 use native.Mathlib.Omega.{arith}
 use borrow.Author.Needs.{needs}
 use lib.ListN.{length}
+use Rattle.rules.proofs.Bounds.{some-tick}
 use Rattle.text.specs.Text.{pieces, Put}
 use Rattle.text.proofs.Laws.{put-none, put-more}
 use Rattle.lines.specs.Lines.{loadLine}
 use Rattle.report.specs.Report.{thousandths}
-use Rattle.report.proofs.Laws.{some-tick}
 use Rattle.report.proofs.put_loads.Statement.{statement}
 use Rattle.report.proofs.put_loads.Tie as tie
 

@@ -4,7 +4,7 @@ use native.Mathlib.Omega.{arith}
 use borrow.Author.Needs.{needs}
 use borrow.Fn.Kinds.{In}
 use borrow.Fn.PlainCycle.{Measures, is, falls, and}
-use Rattle.text.proofs.Laws.{put-nothing, put-then, put-byte, put-length, digits-none, digits-one, digits-more, digits-few}
+use Rattle.text.proofs.Laws.{put-nothing, put-then, put-byte, put-length, digits-none, digits-one, digits-more, put-few}
 use Rattle.text.proofs.put_digits.Reads as put-digits
 use Rattle.text.proofs.put_digits.Kinds as put-digits-kinds
 use Rattle.text.proofs.+put_digits.Lts-put_digits as put-digits-lts
@@ -25,8 +25,7 @@ put-digits-below t =
 -- the last digit's place: the digits before it are at most `most - 1`
 last : {t : ℕ} → put-digits-lts.Need-slice-write-text-2 (put-digits-below t, put-digits.Post) (put-digits-at t) put-digits.Post
 last {t} c = let v = c .before .before in
-    let a = v .before .before .before .before .before .args in
-    omega (arith, v .put-digits .ensures .ends, put-length (v .put-digits .ensures), digits-few (a .most - 1) (a .x / 10))
+    omega (arith, put-few _ _ (v .put-digits .ensures), put-length (v .put-digits .ensures))
 
 pub +put-digits-spec : {M : Type 1} → statement M
 +put-digits-spec = close μ-put-digits λ t. put-digits-lts.spec (
