@@ -63,24 +63,28 @@ all-hold : (cs : List Case) → AllComputed cs → AllHold cs
 all-hold [] e = tt
 all-hold (c ∷ cs) e = (each (fileOf c) (read-sound (fileOf c) (encode-bytes (tableFor c)) (e .0 .0)) (c .placement) (c .claims) (e .0 .1), all-hold cs (e .1))
 
+-- what is computed for a row, in front of that for the others
+row : {A B : Type 0} → A → B → A × B
+row a b = (a, b)
+
 computed : AllComputed cases
 unfolding judgeOf judgedOn firstUnknown responsesOf firstBroken checkRule firstBelow someBelow sumTo firstFrom elsewhere apart together somePair residenceBroken coResidenceBroken exclusionBroken
     memoryBroken memoryOn utilisationBroken loadOn networkBroken traffic service scheduled pending unfinished response leastSolution demand ceil readOf tableOf emptyTable column scanOf scanFrom atEnd
     missing encode recordsTo encodeRecord fieldBytes verdict recordVerdict contentVerdict hyperperiodTooLarge messageRepeated periodsDiffer priorityUsed notInFile badPair badGroup badResidence outOfRange
     tooMany outOfOrder kindAt recordCut markCut little number bytes markAt lcm lcmTo
 computed =
-    ((refl, (refl, ((omega arith, refl), ((omega arith, refl), ((omega arith, refl), tt))))),
-    ((refl, (refl, ((tt, refl), tt))),
-    ((refl, (refl, ((omega arith, refl), ((omega arith, refl), tt)))),
-    ((refl, (refl, (tt, (refl, tt)))),
-    ((refl, (refl, (tt, (refl, tt)))),
-    ((refl, (refl, tt)),
-    ((refl, (refl, tt)),
-    ((refl, (refl, (refl, tt))),
-    ((refl, (refl, (refl, tt))),
-    ((refl, (refl, tt)),
-    ((refl, (refl, tt)),
-    tt)))))))))))
+    row (refl, (refl, ((omega arith, refl), ((omega arith, refl), ((omega arith, refl), tt)))))
+    (row (refl, (refl, ((tt, refl), tt)))
+    (row (refl, (refl, ((omega arith, refl), ((omega arith, refl), tt))))
+    (row (refl, (refl, (tt, (refl, tt))))
+    (row (refl, (refl, (tt, (refl, tt))))
+    (row (refl, (refl, tt))
+    (row (refl, (refl, tt))
+    (row (refl, (refl, (refl, tt)))
+    (row (refl, (refl, (refl, tt)))
+    (row (refl, (refl, tt))
+    (row (refl, (refl, tt))
+    tt))))))))))
 
 pub cases-hold : AllHold cases
 cases-hold = all-hold cases computed

@@ -137,7 +137,7 @@ abbrev pub cases : List Case
 cases =
     -- tasks (C, T, D) 1 4 4, 2 6 6, 3 12 10, falling priority, one processor: responses 1, 3, 10
     onOne (processor 100 1000) (task 1 4 4 10 3 ∷ task 2 6 6 10 2 ∷ task 3 12 10 10 1 ∷ [])
-        (judged Kept (1 ∷ 3 ∷ 10 ∷ []) ∷ ends 0 1 ∷ ends 1 3 ∷ ends 2 10 ∷ [])
+    (judged Kept (1 ∷ 3 ∷ 10 ∷ []) ∷ ends 0 1 ∷ ends 1 3 ∷ ends 2 10 ∷ [])
     -- with D 9 the set is a minimal conflict
     ∷ onOne (processor 100 1000) (task 1 4 4 10 3 ∷ task 2 6 6 10 2 ∷ task 3 12 9 10 1 ∷ []) (judged (Broken Deadline 2) (1 ∷ 3 ∷ 0 ∷ []) ∷ minimal 7 ∷ [])
     -- 2 4 4 and 2 4 4: responses 2, 4
