@@ -56,8 +56,8 @@ pub extern "C" fn placement_judge(file: &[u8], placement: &[u8]) -> u16
 // The judgement, the number concerned and the response of each task, into the lent numbers: how many are written, or the refusal.
 #[no_mangle]
 pub extern "C" fn placement_judge_tasks(file: &[u8], placement: &[u8], out: &mut [i32]) -> u64
-    ensures number { λ r. ⌜ r ≡ judgedTasksAs (reports.answerOf (now (file .entry)) (now (placement .entry)) (length (now (out .entry)))) ⌝ }
-    ensures buffer { λ _. ⌜ now (out .exit) ≡ reports.bufferOf (now (file .entry)) (now (placement .entry)) (now (out .entry)) ⌝ }
+    ensures number { λ r. ⌜ r ≡ judgedTasksAs (reports.reportAnswer (now (file .entry)) (now (placement .entry)) (length (now (out .entry)))) ⌝ }
+    ensures buffer { λ _. ⌜ now (out .exit) ≡ reports.reportBuffer (now (file .entry)) (now (placement .entry)) (now (out .entry)) ⌝ }
 {
     let answer = task_report::judge_tasks(file, placement, out);
     match answer {

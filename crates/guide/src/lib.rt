@@ -37,7 +37,7 @@ fn limited(x: u64, most: u64) -> u64
 }
 
 // What all processors have together.
-fn total(rooms: [u64; 8]) -> u64
+fn sum_of(rooms: [u64; 8]) -> u64
     ensures { λ r. ⌜ r ≤ 8796093022208 ⌝ }
 {
     let mut sum: u64 = 0;
@@ -63,8 +63,8 @@ fn weights_of(columns: &Columns, s: State) -> [u32; 24]
 {
     let memory_rooms = s.memory;
     let load_rooms = s.load;
-    let all_memory = total(memory_rooms);
-    let all_load = total(load_rooms);
+    let all_memory = sum_of(memory_rooms);
+    let all_load = sum_of(load_rooms);
     let mut weights = [0u32; 24];
     let mut k: usize = 0;
     while k < 24 {
@@ -230,8 +230,8 @@ fn bulk(load: u32, memory: u32, s: State, processors: usize) -> u64
 {
     let memory_rooms = s.memory;
     let load_rooms = s.load;
-    let by_load = scaled(millionths(wide(load), total(load_rooms)), processors);
-    let by_memory = scaled(millionths(wide(memory), total(memory_rooms)), processors);
+    let by_load = scaled(millionths(wide(load), sum_of(load_rooms)), processors);
+    let by_memory = scaled(millionths(wide(memory), sum_of(memory_rooms)), processors);
     if by_load < by_memory {
         by_memory
     } else {

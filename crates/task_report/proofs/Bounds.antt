@@ -36,7 +36,7 @@ use Rattle.judge.specs.declared.Judged.{Judged}
 use Rattle.judge.specs.Judge.{alongside, responseOf, responsesOf, judgementBy, concernedOf, judgedOn, judgedBy, judgeOf}
 use Rattle.judge.proofs.Meaning.{Judging, judging, of-length, of-byte, of-rules}
 use Rattle.task_report.specs.declared.Answer.the-variants.{Refused, Written}
-use Rattle.task_report.specs.Report.{answerBy, answerOf}
+use Rattle.task_report.specs.Report.{reportBy, reportAnswer}
 use Rattle.task_report.specs.Small.{Small}
 
 -- ---- the numbers of a judgement
@@ -81,8 +81,8 @@ module _ {t : Table} (s : Sound t) where
 
 -- ---- the place of a refusal
 
-pub answer-place : (file : List ℕ) → Bytes file → (q : List ℕ) (room : ℕ) (cause : Cause) (place : ℕ) → answerOf file q room ≡ Refused cause place → place ≤ 1302
-unfolding answerOf judgeOf
+pub answer-place : (file : List ℕ) → Bytes file → (q : List ℕ) (room : ℕ) (cause : Cause) (place : ℕ) → reportAnswer file q room ≡ Refused cause place → place ≤ 1302
+unfolding reportAnswer judgeOf
 answer-place file b q room cause place e = go (readOf file .outcome) refl e
   where
     n : ℕ
@@ -92,11 +92,11 @@ answer-place file b q room cause place e = go (readOf file .outcome) refl e
     by-room true h = let z : 0 ≡ place = cc in omega arith
     by-room false h = absurd (let z : _≡_ {A = ℕ} 0 1 = cc in omega arith)
 
-    by : (j : Judgement) → concernedOf j ≤ 1302 → answerBy j n room ≡ Refused cause place → place ≤ 1302
+    by : (j : Judgement) → concernedOf j ≤ 1302 → reportBy j n room ≡ Refused cause place → place ≤ 1302
     by (judgements.Refused c p) l h = let z : p ≡ place = cc in omega arith
     by judgements.Kept l h = by-room (ltb room (n + 2)) h
     by (judgements.Broken r k) l h = by-room (ltb room (n + 2)) h
 
-    go : (o : Outcome) → readOf file .outcome ≡ o → answerBy (judgedBy o (readOf file .table) q .judgement) n room ≡ Refused cause place → place ≤ 1302
+    go : (o : Outcome) → readOf file .outcome ≡ o → reportBy (judgedBy o (readOf file .table) q .judgement) n room ≡ Refused cause place → place ≤ 1302
     go (outcomes.Refused c p) h a = by (judgements.Refused c p) (refused-place file c p h) a
     go outcomes.Readable h a = by (judgedOn (readOf file .table) q .judgement) (judged-small (read-sound file b h) q .concerned) a

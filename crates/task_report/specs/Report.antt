@@ -23,26 +23,26 @@ abbrev pub writtenIn : ℕ → ℕ → Answer
 writtenIn n room = cond (ltb room (n + 2)) (Refused ShortAnswer 0) (Written (n + 2))
 
 -- the judgement's refusals come before 12
-abbrev pub answerBy : Judgement → ℕ → ℕ → Answer
-answerBy (judgements.Refused cause place) n room = Refused cause place
-answerBy judgements.Kept n room = writtenIn n room
-answerBy (judgements.Broken rule k) n room = writtenIn n room
+abbrev pub reportBy : Judgement → ℕ → ℕ → Answer
+reportBy (judgements.Refused cause place) n room = Refused cause place
+reportBy judgements.Kept n room = writtenIn n room
+reportBy (judgements.Broken rule k) n room = writtenIn n room
 
 -- 01: a refusal writes nothing; else the numbers, each with its sign, stand at the start, and later places keep their contents
-abbrev pub bufferBy : Answer → List ℕ → List ℤ → List ℤ
-bufferBy (Refused cause place) numbers old = old
-bufferBy (Written count) numbers old = map pos numbers ++ drop count old
+abbrev pub reportBufferBy : Answer → List ℕ → List ℤ → List ℤ
+reportBufferBy (Refused cause place) numbers old = old
+reportBufferBy (Written count) numbers old = map pos numbers ++ drop count old
 
 -- what is answered on a judgement of n tasks, and what a buffer that held old holds then
-abbrev pub answerOn : ℕ → Judged → ℕ → Answer
-answerOn n j room = answerBy (j .judgement) n room
+abbrev pub reportOn : ℕ → Judged → ℕ → Answer
+reportOn n j room = reportBy (j .judgement) n room
 
-abbrev pub bufferOn : ℕ → Judged → List ℤ → List ℤ
-bufferOn n j old = bufferBy (answerOn n j (length old)) (numbersOf n j) old
+abbrev pub reportBufferOn : ℕ → Judged → List ℤ → List ℤ
+reportBufferOn n j old = reportBufferBy (reportOn n j (length old)) (numbersOf n j) old
 
 -- the same on a file and a placement, by the judgement that also gives the one number for C
-unfoldable pub answerOf : List ℕ → List ℕ → ℕ → Answer
-answerOf file q room = answerOn (readOf file .table .tasks .count) (judgeOf file q) room
+unfoldable pub reportAnswer : List ℕ → List ℕ → ℕ → Answer
+reportAnswer file q room = reportOn (readOf file .table .tasks .count) (judgeOf file q) room
 
-unfoldable pub bufferOf : List ℕ → List ℕ → List ℤ → List ℤ
-bufferOf file q old = bufferOn (readOf file .table .tasks .count) (judgeOf file q) old
+unfoldable pub reportBuffer : List ℕ → List ℕ → List ℤ → List ℤ
+reportBuffer file q old = reportBufferOn (readOf file .table .tasks .count) (judgeOf file q) old

@@ -6,7 +6,7 @@ ghost use lib.IntN.{pos};
 ghost use lib.ListN.{length, drop};
 ghost use Rattle.table.specs.Sound.{Sound};
 ghost use Rattle.judge.specs.Judge.{concernedOf, judgedOn};
-ghost use Rattle.task_report.specs.Report.{numbersOf, answerOn, bufferOn, answerOf, bufferOf};
+ghost use Rattle.task_report.specs.Report.{numbersOf, reportOn, reportBufferOn, reportAnswer, reportBuffer};
 ghost use Rattle.task_report.specs.Small.{Small};
 use judge::Judged;
 use judge::Judgement;
@@ -21,7 +21,7 @@ pub enum Answer {
 }
 
 // The number concerned, 0 beside answer 0; of a refusal, its place.
-fn concerned(judgement: Judgement) -> usize
+fn number_concerned(judgement: Judgement) -> usize
     ensures { λ r. ⌜ r ≡ concernedOf judgement ⌝ }
 {
     match judgement {
@@ -39,7 +39,7 @@ fn put_numbers(out: &mut [i32], judged: Judged, n: usize)
     let judgement = judged.judgement;
     let responses = judged.responses;
     out[0] = codes::judgement_number(judgement) as i32;
-    out[1] = concerned(judgement) as i32;
+    out[1] = number_concerned(judgement) as i32;
     let mut k: usize = 0;
     while k < n {
         out[2 + k] = responses[k] as i32;
@@ -50,8 +50,8 @@ fn put_numbers(out: &mut [i32], judged: Judged, n: usize)
 // On a table that was read: 13 and 14, then 12, or the numbers are put.
 fn judge_tasks_of(table: Table, placement: &[u8], out: &mut [i32]) -> Answer
     requires { ⌜ Sound table ⌝ }
-    ensures answer { λ r. ⌜ r ≡ answerOn (table .tasks .count) (judgedOn table (now (placement .entry))) (length (now (out .entry))) ⌝ }
-    ensures buffer { λ _. ⌜ now (out .exit) ≡ bufferOn (table .tasks .count) (judgedOn table (now (placement .entry))) (now (out .entry)) ⌝ }
+    ensures answer { λ r. ⌜ r ≡ reportOn (table .tasks .count) (judgedOn table (now (placement .entry))) (length (now (out .entry))) ⌝ }
+    ensures buffer { λ _. ⌜ now (out .exit) ≡ reportBufferOn (table .tasks .count) (judgedOn table (now (placement .entry))) (now (out .entry)) ⌝ }
 {
     let tasks = table.tasks;
     let n = tasks.count;
@@ -69,8 +69,8 @@ fn judge_tasks_of(table: Table, placement: &[u8], out: &mut [i32]) -> Answer
 
 // Judges a placement of a file's tasks, and puts the judgement and the response of each task into the buffer.
 pub fn judge_tasks(file: &[u8], placement: &[u8], out: &mut [i32]) -> Answer
-    ensures answer { λ r. ⌜ r ≡ answerOf (now (file .entry)) (now (placement .entry)) (length (now (out .entry))) ⌝ }
-    ensures buffer { λ _. ⌜ now (out .exit) ≡ bufferOf (now (file .entry)) (now (placement .entry)) (now (out .entry)) ⌝ }
+    ensures answer { λ r. ⌜ r ≡ reportAnswer (now (file .entry)) (now (placement .entry)) (length (now (out .entry))) ⌝ }
+    ensures buffer { λ _. ⌜ now (out .exit) ≡ reportBuffer (now (file .entry)) (now (placement .entry)) (now (out .entry)) ⌝ }
 {
     let reading = table::read(file);
     let outcome = reading.outcome;

@@ -23,8 +23,8 @@ weights-of-spec =
     (tie.spec
     Inv-loop
     μ-loop
-    (λ c κs. search needs)  -- total-requires
-    (λ c κs. search needs)  -- total-requires-2
+    (λ c κs. search needs)  -- sum-of-requires
+    (λ c κs. search needs)  -- sum-of-requires-2
     (λ c. (search needs, search needs, λ j. omega (arith, zeros 24 j)))  -- loop-holds
     (λ c. search needs)  -- mul-wide
     (λ c. search needs)  -- index-1-wide

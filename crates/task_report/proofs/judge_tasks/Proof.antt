@@ -4,12 +4,12 @@ use borrow.Author.Needs.{needs}
 use Rattle.table.specs.declared.Reading.{Reading}
 use Rattle.table.proofs.Sound.{read-sound}
 use Rattle.judge.specs.Judge.{judgeOf}
-use Rattle.task_report.specs.Report.{answerOf, bufferOf}
+use Rattle.task_report.specs.Report.{reportAnswer, reportBuffer}
 use Rattle.task_report.proofs.judge_tasks.Statement.{statement}
 use Rattle.task_report.proofs.judge_tasks.Tie as tie
 
 pub judge-tasks-spec : {M : Type 1} → statement M
-unfolding answerOf bufferOf judgeOf
+unfolding reportAnswer reportBuffer judgeOf
 judge-tasks-spec =
     tie.close
     (tie.spec

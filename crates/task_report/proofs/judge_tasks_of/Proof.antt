@@ -11,13 +11,13 @@ use types.Run.{OneOf}
 use Rattle.judge.specs.declared.Judgement.{Judgement}
 use Rattle.judge.specs.declared.Judgement.the-variants.{Refused, Kept, Broken}
 use Rattle.judge.proofs.Judgement.{the-type}
-use Rattle.task_report.specs.Report.{writtenIn, answerBy}
+use Rattle.task_report.specs.Report.{writtenIn, reportBy}
 use Rattle.task_report.proofs.Bounds.{judged-small}
 use Rattle.task_report.proofs.judge_tasks_of.Statement.{statement}
 use Rattle.task_report.proofs.judge_tasks_of.Tie as tie
 
 -- a judgement that is no refusal, by its tag
-answered : (j : Judgement) → OneOf (1 ∷ 2 ∷ []) (tagOf the-type j) → (n room : ℕ) → answerBy j n room ≡ writtenIn n room
+answered : (j : Judgement) → OneOf (1 ∷ 2 ∷ []) (tagOf the-type j) → (n room : ℕ) → reportBy j n room ≡ writtenIn n room
 answered (Refused cause place) k n room = absurd (⊎-elim (λ e. omega arith) (λ e. omega arith) k)
 answered Kept k n room = refl
 answered (Broken rule i) k n room = refl

@@ -33,8 +33,8 @@ put-numbers-spec =
     (λ c κs. search needs)  -- judgement-number-requires
     (λ c. record { sfits = omega arith })  -- cast-out
     (λ c. search needs)  -- slice-set-from-out
-    (λ c κs. search needs)  -- concerned-requires
-    (λ c. record { sfits = omega (arith, c .concerned .ensures) })  -- cast-out-2
+    (λ c κs. search needs)  -- number-concerned-requires
+    (λ c. record { sfits = omega (arith, c .number-concerned .ensures) })  -- cast-out-2
     (λ c. simp length-set (omega arith))  -- slice-set-from-out-2
     (λ c. (omega arith, simp length-set (c .before .before .before .pre .2), refl))  -- loop-holds
     (λ c. search needs)  -- mul-out
@@ -55,7 +55,7 @@ put-numbers-spec =
     let z = start l in
     let a = z .args in
     let number = l .before .before .judgement-number in
-    let concerned = l .before .concerned in
+    let concerned = l .before .number-concerned in
     let done : l .loop .k ≡ a .n = omega arith in
     put-all (a .out .now) (a .judged .responses) (number .result) (concerned .result) (a .n) (omega (arith, number)) (omega (arith, concerned .ensures, z .pre)) (omega (arith, all l)) (z .pre .2) (rw done at (l .loop .inv .2))
     ∙ ap₂ (λ (x y : ℕ). map pos (x ∷ y ∷ take (a .n) (a .judged .responses)) ++ drop (a .n + 2) (a .out .now)) (number .ensures) (concerned .ensures)))  -- returns

@@ -1,8 +1,8 @@
 -- Each processor has less than 2^40.
 use Prim.Native.Nat.{_*_, _-_, _≤_}
 use borrow.Author.Needs.{needs}
-use Rattle.guide.proofs.total.Statement.{statement}
-use Rattle.guide.proofs.total.Tie as tie
+use Rattle.guide.proofs.sum_of.Statement.{statement}
+use Rattle.guide.proofs.sum_of.Tie as tie
 
 abbrev Inv-loop : tie.InvT-loop
 Inv-loop rooms sum₀ p₀ sum p = (p ≤ 8) × (sum ≤ p * 1099511627776)
@@ -10,8 +10,8 @@ Inv-loop rooms sum₀ p₀ sum p = (p ≤ 8) × (sum ≤ p * 1099511627776)
 abbrev μ-loop : tie.MeasureT-loop
 μ-loop rooms sum₀ p₀ sum p = 8 - p
 
-pub total-spec : {M : Type 1} → statement M
-total-spec =
+pub sum-of-spec : {M : Type 1} → statement M
+sum-of-spec =
     tie.close
     (tie.spec
     Inv-loop
