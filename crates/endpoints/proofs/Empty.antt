@@ -1,25 +1,25 @@
 -- Where nothing stands, the rules are kept and all is left. Assumes nothing.
 use mathlib.Core.Path.{_≡_, refl}
 use mathlib.Core.Bool.{Bool, true, not, _&&_}
-use Prim.Native.Nat.{ℕ, _*_, _/_, _<_}
+use Prim.Native.Nat.{ℕ, _*_, _/_, _≤_}
 use native.Mathlib.Omega.{arith}
 use borrow.Author.Tests.{lt-ltb}
 use lib.Dec.{T, eqb, ltb, ltb→lt}
-use lib.ListN.{length, getD, replicate}
+use lib.ListN.{getD, replicate}
 use Rattle.finite.proofs.Stored.{zeros}
 use Rattle.finite.proofs.Sum.{sum-zero}
 use Rattle.finite.proofs.Some.{some-elim}
 use Rattle.finite.proofs.Only.{only-out}
-use Rattle.mask.specs.Mask.{has, maskOf}
+use Rattle.mask.specs.Mask.{has}
 use Rattle.mask.proofs.Tests.{and-left, and-right}
 use Rattle.mask.proofs.Laws.{has-mask, has-zero}
 use Rattle.table.specs.declared.Table.{Table}
+use Rattle.table.proofs.Columns.{column-length, column-in}
 use Rattle.rules.specs.Placement.{apart, together}
 use Rattle.rules.specs.Rules.{residenceBroken, coResidenceBroken, exclusionBroken, memoryOn, memoryBroken, loadOn, utilisationBroken, crosses, amountOf, traffic, networkBroken, Keeps}
 use Rattle.rules.specs.Sets.{standing}
 use Rattle.rules.proofs.Where.{apart-elim, together-elim, pair-elim}
-use Rattle.partial.specs.declared.State.{State}
-use Rattle.endpoints.specs.Endpoints.{Started}
+use Rattle.endpoints.specs.Endpoints.{startOf, Started}
 
 module _ (t : Table) (on : ℕ → ℕ → Bool) (none : (k p : ℕ) → T (on k p) → ⊥) where
   no-memory : (p : ℕ) → memoryOn t on p ≡ 0
@@ -58,32 +58,36 @@ module _ (t : Table) (on : ℕ → ℕ → Bool) (none : (k p : ℕ) → T (on k
 empty-sets : (k p : ℕ) → T (standing (replicate 8 0) k p) → ⊥
 empty-sets k p u = rw (zeros 8 p, has-zero k) at u
 
-pub started : {t : Table} {s : State} → s .on ≡ replicate 8 0 → s .left ≡ maskOf (t .tasks .count) (λ j. true)
-    → length (s .memory) ≡ 8 → ((p : ℕ) → p < t .processors .count → getD (s .memory) p 0 ≡ getD (t .processors .memory) p 0)
-    → length (s .load) ≡ 8 → ((p : ℕ) → p < t .processors .count → getD (s .load) p 0 ≡ getD (t .processors .limit) p 0 * t .hyperperiod / 1000)
-    → s .traffic ≡ t .capacity * t .hyperperiod → Started t s
-started {t} {s} e left memory-long memory load-long load all = record {
+pub started : {t : Table} → t .processors .count ≤ 8 → Started t (startOf t)
+unfolding startOf
+started {t} few = record {
   fits = record {
     partial = record {
-      long = rw e refl;
-      task = λ k p u. absurd (nothing k p u);
-      processor = λ k p u. absurd (nothing k p u);
-      once = λ k p r u v. absurd (nothing k p u);
+      long = refl;
+      task = λ k p u. absurd (empty-sets k p u);
+      processor = λ k p u. absurd (empty-sets k p u);
+      once = λ k p r u v. absurd (empty-sets k p u);
     };
-    keeps = nothing-keeps t (standing (s .on)) nothing;
-    open-task = λ k u. (ltb→lt k n (and-left (ltb k n) true (rw (left, has-mask n (λ j. true) k) at u)), nothing k);
-    placed-task = λ k l out. absurd (out (rw (left, has-mask n (λ j. true) k, lt-ltb k n l) tt));
-    memory-long = memory-long;
-    memory = λ p l. omega (arith, memory p l, no-memory t (standing (s .on)) nothing p);
-    load-long = load-long;
-    load = λ p l. omega (arith, load p l, no-load t (standing (s .on)) nothing p);
-    traffic = omega (arith, all, no-traffic t (standing (s .on)) nothing);
+    keeps = nothing-keeps t (standing (replicate 8 0)) empty-sets;
+    open-task = λ k u. (ltb→lt k n (and-left (ltb k n) true (rw (has-mask n (λ j. true) k) at u)), empty-sets k);
+    placed-task = λ k l out. absurd (out (rw (has-mask n (λ j. true) k, lt-ltb k n l) tt));
+    memory-long = column-length 8 m _;
+    memory = λ p l. omega (arith, column-in 8 m memory p few l, no-memory t (standing (replicate 8 0)) empty-sets p);
+    load-long = column-length 8 m _;
+    load = λ p l. omega (arith, column-in 8 m load p few l, no-load t (standing (replicate 8 0)) empty-sets p);
+    traffic = omega (arith, no-traffic t (standing (replicate 8 0)) empty-sets);
   };
-  nothing = nothing;
+  nothing = empty-sets;
 }
   where
     n : ℕ
     n = t .tasks .count
 
-    nothing : (k p : ℕ) → T (standing (s .on) k p) → ⊥
-    nothing k p u = empty-sets k p (rw e at u)
+    m : ℕ
+    m = t .processors .count
+
+    memory : ℕ → ℕ
+    memory p = getD (t .processors .memory) p 0
+
+    load : ℕ → ℕ
+    load p = getD (t .processors .limit) p 0 * t .hyperperiod / 1000

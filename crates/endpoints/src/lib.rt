@@ -1,10 +1,8 @@
 // The state that a search begins with, and the bytes of the placement that it ends with.
 ghost use mathlib.Core.Path.{_≡_};
 ghost use Prim.Native.Nat.{_<_, _≤_};
-ghost use Rattle.table.specs.declared.Table.{Table};
 ghost use Rattle.table.specs.Sound.{Sound};
-ghost use Rattle.partial.specs.Partial.{Whole};
-ghost use Rattle.endpoints.specs.Endpoints.{Started, Names, processorOf};
+ghost use Rattle.endpoints.specs.Endpoints.{startOf, processorOf, placementOf};
 use numbers::wide;
 use partial::Sizes;
 use partial::State;
@@ -13,7 +11,7 @@ use table::Table;
 // Nothing is placed yet.
 pub fn start(t: Table) -> State
     requires { ⌜ Sound t ⌝ }
-    ensures { λ r. ⌜ Started t r ⌝ }
+    ensures { λ r. ⌜ r ≡ startOf t ⌝ }
 {
     let processors = t.processors;
     let tasks = t.tasks;
@@ -53,8 +51,8 @@ fn processor_of(sets: [u32; 8], m: usize, k: usize) -> u8
 
 // The processor of each task of a whole placement, 0 beyond the tasks.
 pub fn placement_of(sizes: Sizes, sets: [u32; 8]) -> [u8; 24]
-    requires { ⌜ ((t : Table) × (sizes .tasks ≡ t .tasks .count) × (sizes .processors ≡ t .processors .count) × Sound t × Whole t sets) ⌝ }
-    ensures { λ r. ⌜ ((t : Table) → sizes .tasks ≡ t .tasks .count → sizes .processors ≡ t .processors .count → Whole t sets → Names t sets r) ⌝ }
+    requires { ⌜ (sizes .tasks ≤ 24) × (sizes .processors ≤ 8) ⌝ }
+    ensures { λ r. ⌜ r ≡ placementOf sets (sizes .tasks) (sizes .processors) ⌝ }
 {
     let n = sizes.tasks;
     let m = sizes.processors;

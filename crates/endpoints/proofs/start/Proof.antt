@@ -1,21 +1,21 @@
 -- `start` meets its contract. Assumes nothing.
-use mathlib.Core.Path.{refl, ap}
+use mathlib.Core.Path.{_≡_, refl, ap}
 use Prim.Native.Nat.{ℕ, _-_, _*_, _/_, _≤_}
 use native.Mathlib.Nat.{mul-le-mul}
 use native.Mathlib.Omega.{arith}
 use borrow.Author.Needs.{needs}
-use lib.ListN.{getD, replicate}
-use Rattle.table.proofs.Filling.{Filled, fill-start}
-use Rattle.endpoints.proofs.FilledUp.{fill-next, filled-at}
-use Rattle.endpoints.proofs.Empty.{started}
+use lib.ListN.{getD}
+use Rattle.table.specs.Table.{column}
+use Rattle.endpoints.specs.Endpoints.{startOf}
+use Rattle.endpoints.proofs.FilledUp.{column-start, column-next}
 use Rattle.endpoints.proofs.start.Statement.{statement}
 use Rattle.endpoints.proofs.start.Tie as tie
 
 abbrev Inv-loop : tie.InvT-loop
 Inv-loop t processors tasks m h memory₀ load₀ p₀ memory load p =
     (p ≤ t .processors .count)
-    × Filled 8 (t .processors .count) (λ j. getD (t .processors .memory) j 0) p memory
-    × Filled 8 (t .processors .count) (λ j. getD (t .processors .limit) j 0 * t .hyperperiod / 1000) p load
+    × (memory ≡ column 8 p (λ j. getD (t .processors .memory) j 0))
+    × (load ≡ column 8 p (λ j. getD (t .processors .limit) j 0 * t .hyperperiod / 1000))
 
 abbrev μ-loop : tie.MeasureT-loop
 μ-loop t processors tasks m h memory₀ load₀ p₀ memory load p = m - p
@@ -25,12 +25,13 @@ product : (x h most : ℕ) → x ≤ most → h ≤ 1000000000 → x * h ≤ mos
 product x h most l k = mul-le-mul l k
 
 pub start-spec : {M : Type 1} → statement M
+unfolding startOf
 start-spec =
     tie.close
     (tie.spec
     Inv-loop
     μ-loop
-    (λ c. (omega arith, fill-start _ _ (replicate 8 0), fill-start _ _ (replicate 8 0)))  -- loop-holds
+    (λ c. (omega arith, column-start 8 _, column-start 8 _))  -- loop-holds
     (λ c. search needs)  -- mul-wide
     (λ c. search needs)  -- element-copy-out-wide
     (λ c κs. search needs)  -- wide-requires
@@ -52,8 +53,8 @@ start-spec =
     let inv = l .before .loop .inv in
     let most = l .before .before .before .before .pre .processors .most in (
       omega arith,
-      fill-next (inv .1) most (l .loop-test .taken) (c .before .before .wide .ensures .0),
-      fill-next (inv .2) most (l .loop-test .taken) (ap (λ (x : ℕ). x * l .before .before .before .before .args .t .hyperperiod / 1000) (c .wide2 .ensures .0)),
+      column-next _ (inv .1) (omega arith) (c .before .before .wide .ensures .0),
+      column-next _ (inv .2) (omega arith) (ap (λ (x : ℕ). x * l .before .before .before .before .args .t .hyperperiod / 1000) (c .wide2 .ensures .0)),
     ))  -- loop-again
     (λ c κs. search needs)  -- all-below-requires
     (λ c κs. search needs)  -- wide-requires-3
@@ -61,5 +62,5 @@ start-spec =
     (λ c.
     let l = c .before .before in
     let inv = l .before .loop .inv in
-    started refl (c .before .all-below .ensures) (inv .1 .long) (filled-at (inv .1) (l .loop-test .left)) (inv .2 .long) (filled-at (inv .2) (l .loop-test .left))
-    (ap (λ (x : ℕ). x * l .before .before .before .before .args .t .hyperperiod) (c .wide3 .ensures .0))))  -- returns
+    let all : l .before .loop .p ≡ l .before .before .before .before .args .t .processors .count = omega arith in
+    rw (c .before .all-below .ensures, inv .1, inv .2, all, c .wide3 .ensures .0) refl))  -- returns

@@ -1,6 +1,7 @@
 -- The rows of the table are what the search asks to be lent, and arrays of zeros are learnt.
 use native.Mathlib.Omega.{arith}
 use borrow.Author.Needs.{needs}
+use Rattle.endpoints.proofs.Empty.{started}
 use Rattle.known.proofs.Laws.{knows-start}
 use Rattle.memo.proofs.Laws.{learnt-start}
 use Rattle.run.proofs.Running.{lends-table, guide-limits}
@@ -29,7 +30,7 @@ run-table-spec =
     let v = g .before .before .before .before in
     let b = v .before .before .before .before .before .before in
     let l = lends-table (b .pre .0) (v .before .before .before .before .sizes-of .ensures) (v .before .before .before .timing-of .ensures) (v .before .before .columns-of .ensures) (v .before .messages-of .ensures) (g .guided .ensures) in
-    ((b .args .table, l, v .start .ensures, learnt-start (knows-start _ 16384)), b .pre .1))  -- run-requires
+    ((b .args .table, l, rw (v .start .ensures) (started (b .pre .0 .processors .most)), learnt-start (knows-start _ 16384)), b .pre .1))  -- run-requires
     (λ c. search needs)  -- same-length
     (λ c.
     let r = c .before .before in
@@ -37,4 +38,4 @@ run-table-spec =
     let v = g .before .before .before .before in
     let b = v .before .before .before .before .before .before in
     let l = lends-table (b .pre .0) (v .before .before .before .before .sizes-of .ensures) (v .before .before .before .timing-of .ensures) (v .before .before .columns-of .ensures) (v .before .messages-of .ensures) (g .guided .ensures) in
-    r .run .ensures (b .args .table) l (v .start .ensures) (learnt-start (knows-start _ 16384))))  -- returns
+    r .run .ensures (b .args .table) l (rw (v .start .ensures) (started (b .pre .0 .processors .most))) (learnt-start (knows-start _ 16384))))  -- returns

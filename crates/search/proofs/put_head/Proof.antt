@@ -1,6 +1,6 @@
 -- `put_head` meets its contract: the head of a placement, or of none.
-use mathlib.Core.Path.{refl}
 use borrow.Author.Needs.{needs}
+use Rattle.endpoints.proofs.Naming.{names}
 use Rattle.search.proofs.Writing.{head-known, names-list}
 use Rattle.search.proofs.put_head.Statement.{statement}
 use Rattle.search.proofs.put_head.Tie as tie
@@ -9,8 +9,7 @@ pub put-head-spec : {M : Type 1} → statement M
 put-head-spec =
     tie.close
     (tie.spec
-    (λ c κs. let b = c .before .before .before .before in
-    (b .args .table, refl, refl, b .pre .0, head-known (b .args .table) (b .args .on) (c .if1 .taken) (b .pre .1) .0))  -- placement-of-requires
+    (λ c κs. let h = c .before .before .before .before .pre .0 in (h .tasks .most, h .processors .most))  -- placement-of-requires
     (λ c κs. search needs)  -- put-found-requires
     (λ c κs. search needs)  -- put-none-requires
     (λ c. search needs)  -- same-length
@@ -18,7 +17,7 @@ put-head-spec =
     let p = c .before .before .before .before .before in
     let b = p .before .before .before .before .before in
     let k = head-known (b .args .table) (b .args .on) (p .before .if1 .taken) (b .pre .1) in
-    let a = names-list (b .pre .0) (k .0) (p .placement-of .ensures (b .args .table) refl refl (k .0)) in
+    let a = names-list (b .pre .0) (k .0) (rw (p .placement-of .ensures) (names (k .0) (b .pre .0 .tasks .most))) in
     rw (k .1 _ (a .placement) (a .same)) (c .before .before .put-found .ensures))  -- returns
     (λ c. search needs)  -- same-length-2
     (λ c.
