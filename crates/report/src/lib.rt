@@ -122,7 +122,13 @@ fn last_line(text: &mut [u8], at: usize, complete: bool) -> usize
 }
 
 // The lines of the first `count` bytes of an answer; returns where they end.
-pub fn put_answer(text: &mut [u8; 358400], file: &[u8], table: Table, answer: &[u8; 16384], count: usize) -> usize
+pub fn put_answer(
+    text: &mut [u8; 358400],
+    file: &[u8],
+    table: Table,
+    answer: &[u8; 16384],
+    count: usize,
+) -> usize
     requires { ⌜ Sound table × (table .tasks .count + 5 ≤ count) × (count ≤ 16384) ⌝ }
     ensures { λ r. ⌜ Put (now (text .entry)) 0 (answerLines (now (file .entry)) table (now (answer .entry)) count) (now (text .exit)) r ⌝ }
 {
