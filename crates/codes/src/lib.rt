@@ -34,7 +34,7 @@ pub fn cause_number(cause: Cause) -> u16
 }
 
 // The number of a rule.
-pub fn rule_number(rule: Rule) -> u16
+fn rule_number(rule: Rule) -> u16
     ensures { λ r. ⌜ r ≡ ruleNumber rule ⌝ }
 {
     match rule {

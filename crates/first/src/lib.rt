@@ -24,11 +24,11 @@ use partial::State;
 use schedule::Timing;
 
 // A task on a processor: whether it is taken, the sets of a good placement, how many conflicts are listed, and whether the list is cut.
-pub struct Tried {
-    pub taken: bool,
-    pub on: [u32; 8],
-    pub count: usize,
-    pub cut: bool,
+struct Tried {
+    taken: bool,
+    on: [u32; 8],
+    count: usize,
+    cut: bool,
 }
 
 // The sets of the first placement, how many conflicts are listed, and whether the list is cut.

@@ -1,11 +1,11 @@
 -- The tests on the lent columns decide whether the open task k on processor p keeps the rules. Assumes nothing.
 use mathlib.Core.Path.{_≡_, refl, _∙_, ap}
 use mathlib.Core.Logic.{_≢_, _⊎_, inl, inr}
-use mathlib.Core.Bool.{Bool, true, false, not, _&&_, _||_}
+use mathlib.Core.Bool.{Bool, true, false, not, _&&_, _||_, cond}
 use mathlib.Core.List.{List}
 use Prim.Native.Nat.{ℕ, _+_, _*_, _/_, _≤_, _<_}
 use native.Mathlib.Omega.{arith}
-use borrow.Author.Tests.{leb-true, leb-false, not-true, not-false}
+use borrow.Author.Tests.{leb-true, leb-false}
 use lib.Dec.{T, leb, ltb, T-not, not-T, leb→le, le→leb, ltb→lt, lt→ltb}
 use lib.ListN.{getD}
 use Rattle.finite.proofs.Some.{or-left, or-right, or-either}
@@ -23,7 +23,8 @@ use Rattle.partial.specs.declared.State.{State}
 use Rattle.partial.specs.declared.Sizes.{Sizes}
 use Rattle.partial.specs.Partial.{Lent, Fits, siteOf}
 use Rattle.partial.specs.declared.Site.{Site}
-use Rattle.partial.specs.Tests.{neither, suits, between, TrialOf}
+use Rattle.partial.specs.declared.Trial.{Trial}
+use Rattle.partial.specs.Tests.{neither, suits, between, trialOf, TrialOf}
 use Rattle.partial.proofs.OneMore as one
 
 -- the tasks on other processors than p, as the code finds them
@@ -164,29 +165,24 @@ module _ {t : Table} {sizes : Sizes} {columns links : List (List ℕ)} {s : Stat
         network = one.le-kept (t .capacity * t .hyperperiod) (traffic t (andTask on k p)) (omega (arith, traffic-with, f .traffic));
       }
 
-  -- ---- the answer, as the code comes to it
+  -- ---- so the trial is right
 
-  pub own-test-fails : {own : Bool} → own ≡ suits columns (siteOf s p) k p → not own ≡ true → KeepsWith t s k p → ⊥
-  own-test-fails {own} a no-own keeps = rw (← a, not-true own no-own) at (keeps-suits keeps)
+  pub trial-right : let r = trialOf columns links sizes (siteOf s p) k p in TrialOf t s k p (r .allowed) (r .added)
+  unfolding trialOf
+  trial-right = go (suits columns (siteOf s p) k p) (meets (getD (partnerRow columns) k 0) (othersThan sizes s p)) refl refl
+    where
+      added : ℕ
+      added = between links (sizes .messages) k (othersThan sizes s p)
 
-  module _ {others : ℕ} (o : others ≡ othersThan sizes s p) where
-    pub group-parted : T (meets (getD (partnerRow columns) k 0) others) → KeepsWith t s k p → ⊥
-    group-parted apart keeps = keeps-whole keeps (rw (← o) apart)
+      network : T (suits columns (siteOf s p) k p) → (T (meets (getD (partnerRow columns) k 0) (othersThan sizes s p)) → ⊥) → (x : Bool) → leb added (s .traffic) ≡ x → TrialOf t s k p x added
+      network own whole true q = record { keeps = tests-keep own whole (leb-true added (s .traffic) q); traffic = traffic-with }
+      network own whole false q = λ keeps. omega (arith, leb-false added (s .traffic) q, keeps-carries keeps)
 
-    -- the last test decides
-    pub network-decides : {own : Bool} {added : ℕ} → own ≡ suits columns (siteOf s p) k p → not own ≡ false → (T (meets (getD (partnerRow columns) k 0) others) → ⊥)
-        → added ≡ between links (sizes .messages) k others → TrialOf t s k p (leb added (s .traffic)) added
-    network-decides {own} {added} a is-own whole d = go (leb added (s .traffic)) refl
-      where
-        sum : added ≡ between links (sizes .messages) k (othersThan sizes s p)
-        sum = rw (← o) d
-
-        go : (x : Bool) → leb added (s .traffic) ≡ x → TrialOf t s k p x added
-        go true q = record {
-          keeps = tests-keep (rw (← a, not-false own is-own) tt) (rw (← o) whole) (omega (arith, leb-true added (s .traffic) q, sum));
-          traffic = rw sum traffic-with;
-        }
-        go false q = λ keeps. omega (arith, leb-false added (s .traffic) q, sum, keeps-carries keeps)
+      go : (own parted : Bool) → suits columns (siteOf s p) k p ≡ own → meets (getD (partnerRow columns) k 0) (othersThan sizes s p) ≡ parted
+          → let r : Trial = cond (own && not parted) (record { allowed = leb added (s .traffic); added = added }) (record { allowed = false; added = 0 }) in TrialOf t s k p (r .allowed) (r .added)
+      go false parted e f = λ keeps. rw e at (keeps-suits keeps)
+      go true true e f = λ keeps. keeps-whole keeps (rw f tt)
+      go true false e f = network (rw e tt) (λ u. rw f at u) (leb added (s .traffic)) refl
 
   -- ---- what the columns and sizes are below
 

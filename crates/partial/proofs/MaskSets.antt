@@ -43,13 +43,13 @@ neither-mask n all a b few e small =
     ∙ rw (e, has-not 32 (bitOr a b) k small l, has-mask n (λ j. true) k, and-true (ltb k n), has-or a b k, has-mask n (λ j. not (has b j || has a j)) k) refl)
 
 -- as the code tests it
-pub meets-if : (a b : ℕ) → (bitAnd a b ≡ 0 → ⊥) → T (meets a b)
+pub meets-if : (a b : ℕ) → (bitAnd a b ≡ 0 → ⊥) → meets a b ≡ true
 unfolding meets
-meets-if a b d = rw (ne-eqb (bitAnd a b) 0 d) tt
+meets-if a b d = rw (ne-eqb (bitAnd a b) 0 d) refl
 
-pub meets-not : (a b : ℕ) → bitAnd a b ≡ 0 → T (meets a b) → ⊥
+pub meets-not : (a b : ℕ) → bitAnd a b ≡ 0 → meets a b ≡ false
 unfolding meets
-meets-not a b e t = rw (eq-eqb (bitAnd a b) 0 e) at t
+meets-not a b e = rw (eq-eqb (bitAnd a b) 0 e) refl
 
 -- a number in both sets, and the other way round
 pub meets-elim : (w a b : ℕ) → a < 2 ^ w → T (meets a b) → (k : ℕ) × T (has a k) × T (has b k)

@@ -11,11 +11,13 @@ use Rattle.table.specs.declared.Table.{Table}
 use Rattle.rules.specs.Placement.{andTask}
 use Rattle.rules.specs.Rules.{Keeps, traffic}
 use Rattle.rules.specs.Sets.{standing, meets}
-use Rattle.columns.specs.Columns.{residenceRow, memoryRow, loadRow, exclusionRow, senderRow, receiverRow, amountRow}
+use Rattle.columns.specs.Columns.{residenceRow, memoryRow, loadRow, exclusionRow, partnerRow, senderRow, receiverRow, amountRow}
 use Rattle.partial.specs.declared.State.{State}
+use Rattle.partial.specs.declared.Sizes.{Sizes}
 use Rattle.partial.specs.declared.Site.{Site}
 use Rattle.partial.specs.declared.Trial.{Trial}
 use Rattle.partial.specs.declared.Stepping.{Stepping}
+use Rattle.partial.specs.Partial.{siteOf}
 
 -- the tasks below n that are in neither set
 unfoldable pub neither : ℕ → ℕ → ℕ → ℕ
@@ -34,6 +36,16 @@ joins k others from to = (eqb from k && has others to) || (eqb to k && has other
 -- what such messages amount to
 unfoldable pub between : List (List ℕ) → ℕ → ℕ → ℕ → ℕ
 between links count k others = sumTo count (λ j. only (joins k others (getD (senderRow links) j 0) (getD (receiverRow links) j 0)) (getD (amountRow links) j 0))
+
+-- the trial of task k on processor p: allowed where the processor suits it, none of its partners stands on another, and the network carries what it adds.
+-- What it adds is not asked for where one of the first two fails.
+unfoldable pub trialOf : List (List ℕ) → List (List ℕ) → Sizes → Site → ℕ → ℕ → Trial
+trialOf columns links sizes site k p =
+    let others = neither (sizes .tasks) (site .left) (site .on) in
+    let added = between links (sizes .messages) k others in
+    cond (suits columns site k p && not (meets (getD (partnerRow columns) k 0) others))
+    (record { allowed = leb added (site .traffic); added = added })
+    (record { allowed = false; added = 0 })
 
 -- messages between tasks, small enough that their sum fits
 pub record SmallMessages (links : List (List ℕ)) (count : ℕ) : Type 0 where
@@ -70,3 +82,7 @@ pub record Enough (s : State) (p memory load added : ℕ) : Type 0 where
 -- the state with the task where a trial allowed it, else the state as it was
 abbrev pub stepAfter : State → ℕ → ℕ → ℕ → ℕ → Trial → Stepping
 stepAfter s k p memory load trial = record { allowed = trial .allowed; next = cond (trial .allowed) (withTask s k p memory load (trial .added)) s }
+
+-- the step of task k to processor p
+abbrev pub stepOf : List (List ℕ) → List (List ℕ) → Sizes → State → ℕ → ℕ → Stepping
+stepOf columns links sizes s k p = stepAfter s k p (getD (memoryRow columns) k 0) (getD (loadRow columns) k 0) (trialOf columns links sizes (siteOf s p) k p)

@@ -10,7 +10,7 @@ ghost use Rattle.rules.specs.Rules.{Keeps};
 ghost use Rattle.rules.specs.Sets.{standing};
 ghost use Rattle.partial.specs.declared.State.{State};
 ghost use Rattle.partial.specs.Partial.{Lent, siteOf, Fits, StepOf};
-ghost use Rattle.partial.specs.Tests.{neither, suits, joins, between, SmallMessages, TrialOf, Enough, stepAfter};
+ghost use Rattle.partial.specs.Tests.{neither, suits, joins, between, SmallMessages, trialOf, Enough, stepAfter, stepOf};
 use columns::AMOUNT;
 use columns::Columns;
 use columns::EXCLUSIONS;
@@ -129,8 +129,7 @@ fn attempt<'a>(
 ) -> Trial
     requires { ⌜ ((t : Table) × (s : State) × Lent t sizes (now columns) (now messages) × Fits t s × (site ≡ siteOf s p))
         × T (has (site .left) k) × (p < sizes .processors) ⌝ }
-    ensures { λ r. ⌜ ((t : Table) (s : State) → Lent t sizes (now (columns .entry)) (now (messages .entry))
-        → Fits t s → site ≡ siteOf s p → TrialOf t s k p (r .allowed) (r .added)) ⌝ }
+    ensures { λ r. ⌜ r ≡ trialOf (now (columns .entry)) (now (messages .entry)) sizes site k p ⌝ }
 {
     if !suits(columns, site, k, p) {
         return REFUSED;
@@ -157,8 +156,8 @@ pub fn allows<'a>(
 ) -> bool
     requires { ⌜ ((t : Table) × (s : State) × Lent t sizes (now columns) (now messages) × Fits t s × (site ≡ siteOf s p))
         × T (has (site .left) k) × (p < sizes .processors) ⌝ }
-    ensures { λ r. ⌜ ((t : Table) (s : State) → Lent t sizes (now (columns .entry)) (now (messages .entry))
-        → Fits t s → site ≡ siteOf s p → Says r (Keeps t (andTask (standing (s .on)) k p))) ⌝ }
+    ensures { λ r. ⌜ (r ≡ trialOf (now (columns .entry)) (now (messages .entry)) sizes site k p .allowed)
+        × ((t : Table) (s : State) → Lent t sizes (now (columns .entry)) (now (messages .entry)) → Fits t s → site ≡ siteOf s p → Says r (Keeps t (andTask (standing (s .on)) k p))) ⌝ }
 {
     let trial = attempt(columns, messages, sizes, site, k, p);
     trial.allowed
@@ -204,8 +203,8 @@ pub fn step<'a>(
 ) -> Stepping
     requires { ⌜ ((t : Table) × Lent t sizes (now columns) (now messages) × Fits t s)
         × T (has (s .left) k) × (p < sizes .processors) ⌝ }
-    ensures { λ r. ⌜ ((t : Table) → Lent t sizes (now (columns .entry)) (now (messages .entry))
-        → Fits t s → StepOf t s k p (r .allowed) (r .next)) ⌝ }
+    ensures { λ r. ⌜ (r ≡ stepOf (now (columns .entry)) (now (messages .entry)) sizes s k p)
+        × ((t : Table) → Lent t sizes (now (columns .entry)) (now (messages .entry)) → Fits t s → StepOf t s k p (r .allowed) (r .next)) ⌝ }
 {
     let site = Site {
         on: s.on[p],

@@ -75,7 +75,7 @@ pub +first-spec : {M : Type 1} → statement M
     let e = c .before .before .before .before .before .before .before .if3 .taken in
     let below : i .before .before .before .before .before .args .k < u .tasks .count = omega (arith, w .upto, l .rules .tasks, i .before .if1 .left) in
     let good = taken-good w (v .0) _ (x .try-processor .result) (y .0) e in
-    let step = step-taken (l .rules .sound) w (i .loop .p) good (c .before .before .before .before .before .before .step .result .allowed) (c .before .before .before .before .before .before .step .ensures u (l .rules) (w .fits)) in
+    let step = step-taken (l .rules .sound) w (i .loop .p) good (c .before .before .before .before .before .before .step .result .allowed) (c .before .before .before .before .before .before .step .ensures .1 u (l .rules) (w .fits)) in
     (omega (arith, a .0, below, l .rules .tasks), (u, l, placing-next (l .rules .sound) w below (taken-ledger w (v .0) _ (x .try-processor .result) (y .0) e) good step, y .1)))  -- first-requires
     (λ c. c .before .before .first .kept .1 .1 .1 .1 .1 .1 .1 .0 ∙ c .before .before .before .before .before .before .before .before .before .before .before .before .before .try-processor .kept .1 .1 .1 .1 .1 .1 .1 .1 .0 ∙ c .before .before .before .before .before .before .before .before .before .before .before .before .before .before .before .before .before .before .before .before .loop .inv .1)  -- same-length
     (λ c u l w k.
@@ -87,7 +87,7 @@ pub +first-spec : {M : Type 1} → statement M
     let e = f .before .before .before .before .before .before .before .before .if3 .taken in
     let below : i .before .before .before .before .before .args .k < u .tasks .count = omega (arith, w .upto, l .rules .tasks, i .before .if1 .left) in
     let good = taken-good w (v .0) _ (x .try-processor .result) (y .0) e in
-    let step = step-taken (l .rules .sound) w (i .loop .p) good (f .before .before .before .before .before .before .before .step .result .allowed) (f .before .before .before .before .before .before .before .step .ensures u (l .rules) (w .fits)) in
+    let step = step-taken (l .rules .sound) w (i .loop .p) good (f .before .before .before .before .before .before .before .step .result .allowed) (f .before .before .before .before .before .before .before .step .ensures .1 u (l .rules) (w .fits)) in
     let z = f .first .ensures u l (placing-next (l .rules .sound) w below (taken-ledger w (v .0) _ (x .try-processor .result) (y .0) e) good step) (y .1) in
     (first-taken w (v .0) _ (x .try-processor .result) (y .0) e below step (f .first .result) (z .0), z .1))  -- returns-2
     (λ c. search needs)  -- add-p

@@ -15,7 +15,7 @@ join-spec =
     (λ c.
     let a = c .before in
     let z = a .before .before in
-    λ t s l f e w knows. (joins-broken (l .rules .sound) f (z .args .k) (z .args .p) (free-at s (z .args .k) (z .args .p) e (z .pre .1)) (rw (← l .rules .processors) (z .pre .2)) (a .allows .result) (a .allows .ensures t s (l .rules) f e) (c .if1 .taken) w, knows))  -- returns
+    λ t s l f e w knows. (joins-broken (l .rules .sound) f (z .args .k) (z .args .p) (free-at s (z .args .k) (z .args .p) e (z .pre .1)) (rw (← l .rules .processors) (z .pre .2)) (a .allows .result) (a .allows .ensures .1 t s (l .rules) f e) (c .if1 .taken) w, knows))  -- returns
     (λ c κs.
     let x = c .before .before .before in
     let z = x .pre in
@@ -34,7 +34,7 @@ join-spec =
     let a = i .before .before in
     let z = a .before .before in
     λ t s l f e w knows. (
-      joins-tested (l .rules .sound) f (z .args .k) (z .args .p) (free-at s (z .args .k) (z .args .p) e (z .pre .1)) (rw (← l .rules .processors) (z .pre .2)) (a .allows .result) (a .allows .ensures t s (l .rules) f e) (i .before .if1 .left)
+      joins-tested (l .rules .sound) f (z .args .k) (z .args .p) (free-at s (z .args .k) (z .args .p) e (z .pre .1)) (rw (← l .rules .processors) (z .pre .2)) (a .allows .result) (a .allows .ensures .1 t s (l .rules) f e) (i .before .if1 .left)
           (x .test .result) (rw (lent-tasks l, i .insert .ensures, e) at (x .test .ensures .0)),
       rw (lent-tasks l) at (x .test .ensures .1),
     )))  -- returns-2

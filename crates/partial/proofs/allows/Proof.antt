@@ -1,4 +1,5 @@
 -- `allows` meets its contract. Assumes nothing.
+use mathlib.Core.Path.{ap}
 use mathlib.Core.Bool.{Bool, true, false}
 use Prim.Native.Nat.{ℕ}
 use borrow.Author.Needs.{needs}
@@ -8,7 +9,9 @@ use Rattle.rules.specs.Placement.{andTask}
 use Rattle.rules.specs.Rules.{Keeps}
 use Rattle.rules.specs.Sets.{standing}
 use Rattle.partial.specs.declared.State.{State}
+use Rattle.partial.specs.declared.Trial.{Trial}
 use Rattle.partial.specs.Tests.{TrialOf}
+use Rattle.partial.proofs.Deciding.{free-at, trial-right}
 use Rattle.partial.proofs.allows.Statement.{statement}
 use Rattle.partial.proofs.allows.Tie as tie
 
@@ -21,4 +24,10 @@ allows-spec =
     tie.close
     (tie.spec
     (λ c κs. search needs)  -- attempt-requires
-    (λ c t s l f e. let a = c .before .args in let r = c .attempt .result in says t s (a .k) (a .p) (r .added) (r .allowed) (c .attempt .ensures t s l f e)))  -- returns
+    (λ c.
+    let z = c .before in
+    let a = z .args in
+    let r = c .attempt .result in (
+      ap (λ (x : Trial). x .allowed) (c .attempt .ensures),
+      λ t s l f e. says t s (a .k) (a .p) (r .added) (r .allowed) (rw (c .attempt .ensures, e) (trial-right l f (a .k) (a .p) (free-at s (a .k) (a .p) e (z .pre .1)) (z .pre .2))),
+    )))  -- returns

@@ -3,7 +3,7 @@ use mathlib.Core.Path.{refl}
 use Prim.Native.Nat.{_<_}
 use native.Mathlib.Omega.{arith}
 use borrow.Author.Needs.{needs}
-use Rattle.partial.proofs.Deciding.{bounds}
+use Rattle.partial.proofs.Deciding.{bounds, trial-right}
 use Rattle.partial.proofs.NextState.{trial-enough, trial-step}
 use Rattle.partial.proofs.step.Statement.{statement}
 use Rattle.partial.proofs.step.Tie as tie
@@ -34,9 +34,12 @@ step-spec =
     let p = a .pre in
     let r = h .attempt .result in
     let b = below a in
-    (omega (arith, b .0), b .1, trial-enough (p .0 .1) (p .0 .2) (a .args .k) (a .args .p) (p .1) (p .2) (r .allowed) (r .added) (h .attempt .ensures (p .0 .0) _ (p .0 .1) (p .0 .2) refl)))  -- follow-requires
-    (λ c t e f.
+    (omega (arith, b .0), b .1, trial-enough (p .0 .1) (p .0 .2) (a .args .k) (a .args .p) (p .1) (p .2) (r .allowed) (r .added) (rw (h .attempt .ensures) (trial-right (p .0 .1) (p .0 .2) (a .args .k) (a .args .p) (p .1) (p .2)))))  -- follow-requires
+    (λ c.
     let h = c .before .before .before in
     let a = h .before .before .before .before in
-    let r = h .attempt .result in
-    rw (c .follow .ensures) (trial-step e f (a .args .k) (a .args .p) (a .pre .1) (a .pre .2) (r .allowed) (r .added) (h .attempt .ensures t _ e f refl))))  -- returns
+    let r = h .attempt .result in (
+      rw (c .follow .ensures, h .attempt .ensures) refl,
+      λ t e f. rw (c .follow .ensures)
+          (trial-step e f (a .args .k) (a .args .p) (a .pre .1) (a .pre .2) (r .allowed) (r .added) (rw (h .attempt .ensures) (trial-right e f (a .args .k) (a .args .p) (a .pre .1) (a .pre .2)))),
+    )))  -- returns
