@@ -102,10 +102,11 @@ pub fn judge_table(t: Table, placement: &[u8]) -> Judged
 {
     let tasks = t.tasks;
     let processors = t.processors;
-    if placement.len() != tasks.count {
+    let n = tasks.count;
+    let unknown = first_unknown(placement, processors.count);
+    if placement.len() != n {
         return refused(Cause::PlacementLength, 0);
     }
-    let unknown = first_unknown(placement, processors.count);
     if unknown < placement.len() {
         return refused(Cause::UnknownProcessor, unknown);
     }

@@ -38,7 +38,7 @@ beside-spec =
     (λ w. rw (w .1) (grouped-join (l .before .loop .inv) (l .loop-test .taken) (sym (c .before .has .ensures) ∙ w .0 .taken)))
     (λ w. rw (w .1) (grouped-skip (l .before .loop .inv) (l .loop-test .taken) (sym (c .before .has .ensures) ∙ w .0 .left)))
     (c .if2 .came))  -- loop-again
-    (λ c κs. small (c .before .before))  -- remove-requires
+    (λ c κs. omega (arith, small (c .before .before)))  -- remove-requires
     (λ c.
     let e = c .before .before .before in
     rw (lt-ltb _ _ (e .if1 .left)) (grouped-end (e .before .pre .0) (c .before .before .loop .inv) (c .before .loop-test .left) (c .remove .ensures))))  -- returns-2

@@ -27,7 +27,10 @@ first-unknown-spec =
     (λ c. search-start)  -- loop-holds
     (λ c. search needs)  -- shared-slice-read-if1
     (λ c. record { fits = omega (arith, c .shared-slice-known .given (c .before .before .loop .k)) })  -- cast-if1
-    (λ c. let l = c .before .before in sym (search-found (l .before .loop .inv) (l .loop-test .taken) (le-leb _ _ (c .if1 .taken))))  -- returns
+    (λ c.
+    let l = c .before .before in
+    let a = l .before .before .args in
+    sym (search-found (l .before .loop .inv) (l .loop-test .taken) (le-leb (a .m) (getD (a .placement .now) (l .before .loop .k) 0) (omega arith))))  -- returns
     (λ c. search needs)  -- add-k
     (λ c. search needs)  -- loop-less
     (λ c. let l = c .before .before in search-next (l .before .loop .inv) (l .loop-test .taken) (lt-leb _ _ (c .if1 .left)))  -- loop-again

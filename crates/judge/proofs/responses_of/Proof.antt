@@ -1,5 +1,6 @@
 -- `responses_of` meets its contract. Assumes nothing.
 use Prim.Native.Nat.{_-_}
+use native.Mathlib.Omega.{arith}
 use borrow.Author.Needs.{needs}
 use Rattle.table.proofs.Filling.{Filled, fill-start, fill-put, fill-end}
 use Rattle.schedule.specs.Arrays.{tasksOf}
@@ -28,5 +29,5 @@ responses-of-spec =
     (λ c. search needs)  -- array-write-responses
     (λ c. search needs)  -- add-k
     (λ c. search needs)  -- loop-less
-    (λ c. fill-put (c .before .before .before .loop .inv) (c .before .before .loop-test .taken) (c .response-at .ensures))  -- loop-again
+    (λ c. fill-put (c .before .before .before .loop .inv) (omega arith) (c .response-at .ensures))  -- loop-again
     (λ c. rw (c .before .before .timing-of .ensures) at (fill-end (c .before .loop .inv) (c .loop-test .left))))  -- returns
