@@ -1,4 +1,5 @@
 // A bound on the region below a state: the open tasks weigh more than all processors together can take, or the network carries too little.
+ghost use mathlib.Core.Path.{_≡_};
 ghost use Rattle.table.specs.declared.Table.{Table};
 ghost use Rattle.timing.specs.Timing.{tasksIn};
 ghost use Rattle.partial.specs.Partial.{Fits};
@@ -7,6 +8,7 @@ ghost use Rattle.region.specs.Lends.{Lends};
 ghost use Rattle.region.specs.Begins.{Begins};
 ghost use Rattle.memo.specs.Memo.{Learnt};
 ghost use Rattle.weighing.specs.Bound.{BoundedAs};
+ghost use Rattle.bound.specs.Due.{isDue, askedNotes, creditAfter, triedNotes, boundNotes};
 use columns::Columns;
 use columns::EXCLUSIONS;
 use columns::Messages;
@@ -85,7 +87,9 @@ fn try_all<'a>(
 }
 
 // Whether the bound is tried: with four open tasks or more; where it has not paid of late, every 32nd time.
-fn due(left: u32, notes: &mut Notes) -> bool {
+fn due(left: u32, notes: &mut Notes) -> bool
+    ensures { λ r. ⌜ (r ≡ isDue left (now (notes .entry))) × (now (notes .exit) ≡ askedNotes left (now (notes .entry))) ⌝ }
+{
     if u32::count_ones(left) < 4 {
         return false;
     }
@@ -98,7 +102,9 @@ fn due(left: u32, notes: &mut Notes) -> bool {
 }
 
 // The credit of the bound after a try, one more than it, 0 where it is used up: a region that it gave up counts for 24, another costs 1.
-fn credit(before: u32, hopeless: bool) -> u32 {
+fn credit(before: u32, hopeless: bool) -> u32
+    ensures { λ r. ⌜ r ≡ creditAfter before hopeless ⌝ }
+{
     if hopeless {
         if 377 < before {
             return 401;
@@ -112,7 +118,9 @@ fn credit(before: u32, hopeless: bool) -> u32 {
 }
 
 // A try of the bound is noted.
-fn note(notes: &mut Notes, hopeless: bool) {
+fn note(notes: &mut Notes, hopeless: bool)
+    ensures { λ _. ⌜ now (notes .exit) ≡ triedNotes hopeless (now (notes .entry)) ⌝ }
+{
     notes[25] = credit(notes[25], hopeless);
 }
 
@@ -133,7 +141,8 @@ pub fn bound<'a>(
 ) -> Bounded
     requires { ⌜ ((t : Table) × Lends t sizes (now timing) (now columns) (now messages) × Begins t (mode .listing) (mode .places) s (now list) count × Learnt t (now columns) (now known) (now memo)) ⌝ }
     ensures { λ r. ⌜ ((t : Table) → Lends t sizes (now (timing .entry)) (now (columns .entry)) (now (messages .entry))
-        → Begins t (mode .listing) (mode .places) s (now (list .entry)) count → Learnt t (now (columns .entry)) (now (known .entry)) (now (memo .entry)) → BoundedAs t (mode .listing) (mode .places) s (now (list .entry)) count (now (list .exit)) r × Learnt t (now (columns .entry)) (now (known .exit)) (now (memo .exit))) ⌝ }
+        → Begins t (mode .listing) (mode .places) s (now (list .entry)) count → Learnt t (now (columns .entry)) (now (known .entry)) (now (memo .entry)) → BoundedAs t (mode .listing) (mode .places) s (now (list .entry)) count (now (list .exit)) r × Learnt t (now (columns .entry)) (now (known .exit)) (now (memo .exit)))
+        × (now (notes .exit) ≡ boundNotes (s .left) (r .hopeless) (now (notes .entry))) ⌝ }
 {
     if !due(s.left, notes) {
         return Bounded {

@@ -193,18 +193,18 @@ pub +branch+explore+seek-spec : {M : Type 1} → statement M
     (λ c. search needs)  -- same-length
     (λ c u l b k.
     let w = c .before .before .before in
-    let m = w .bound .ensures u l b k in
+    let m = w .bound .ensures .0 u l b k in
     (bounded-hopeless (w .bound .result) (m .0) (c .if3 .taken) _, m .1))  -- returns-3
     (λ c κs.
     let w = c .before .before .before .before .before .before .before in
     let a = w .before .before .before .before .before .before .before .before .before .before .before .before .pre in
     let b = a .1 in
-    let m = w .bound .ensures (b .0) (b .1) (b .2) (b .3) in
+    let m = w .bound .ensures .0 (b .0) (b .1) (b .2) (b .3) in
     (omega (arith, a .0), ((b .0, b .1, bounded-begins (w .bound .result) (m .0) (b .2), m .1), omega (arith, w .before .before .before .before .before .if2 .left))))  -- branch-requires
     (λ c. let x = c .before .before in x .branch .kept .1 .1 .1 .1 .1 .1 .0 ∙ x .before .before .before .before .before .before .before .before .bound .kept .1 .1 .1 .1 .1 .1 .0)  -- same-length-2
     (λ c u l b k.
     let x = c .before .before in
     let w = x .before .before .before .before .before .before .before .before in
-    let m = w .bound .ensures u l b k in
+    let m = w .bound .ensures .0 u l b k in
     let y = x .branch .ensures u l (bounded-begins (w .bound .result) (m .0) b) (m .1) in
     (bounded-then (w .bound .result) (m .0) (x .branch .result) (y .0), y .1))  -- returns-4
