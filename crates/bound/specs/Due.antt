@@ -4,7 +4,7 @@ use mathlib.Core.List.{List}
 use Prim.Native.Nat.{ℕ, _+_, _-_, _%_}
 use lib.Dec.{eqb, leb, ltb}
 use lib.ListN.{getD, set}
-use Rattle.mask.specs.Mask.{size}
+use Rattle.mask.specs.Mask.{cardinality}
 
 -- one skip more, of 32
 abbrev pub skipsAfter : ℕ → ℕ
@@ -12,11 +12,11 @@ skipsAfter skips = (skips % 32 + 1) % 32
 
 -- the bound is due: four tasks are open or more, and it has credit or was skipped 31 times
 abbrev pub isDue : ℕ → List ℕ → Bool
-isDue left notes = leb 4 (size 32 left) && (not (eqb (getD notes 25 0) 0) || eqb (skipsAfter (getD notes 26 0)) 0)
+isDue left notes = leb 4 (cardinality 32 left) && (not (eqb (getD notes 25 0) 0) || eqb (skipsAfter (getD notes 26 0)) 0)
 
 -- the notes once that was asked: without credit, a skip counts
 unfoldable pub askedNotes : ℕ → List ℕ → List ℕ
-askedNotes left notes = cond (leb 4 (size 32 left) && eqb (getD notes 25 0) 0) (set notes 26 (skipsAfter (getD notes 26 0))) notes
+askedNotes left notes = cond (leb 4 (cardinality 32 left) && eqb (getD notes 25 0) 0) (set notes 26 (skipsAfter (getD notes 26 0))) notes
 
 -- the credit after a try, one more than it, 0 where it is used up: a region that was given up counts for 24, up to 400; another costs 1
 abbrev pub creditAfter : ℕ → Bool → ℕ

@@ -9,7 +9,7 @@ use Rattle.table.specs.declared.Table.{Table}
 use Rattle.table.proofs.Columns.{column-length, column-in}
 use Rattle.rules.specs.Sets.{standing}
 use Rattle.partial.specs.Partial.{Whole}
-use Rattle.endpoints.specs.Endpoints.{Names, processorOf, placementOf}
+use Rattle.endpoints.specs.Endpoints.{Names, processorOf, processorsOf}
 
 module _ {t : Table} {sets : List ℕ} (w : Whole t sets) where
   processor-is : (k : ℕ) → k < t .tasks .count → (processorOf sets (t .processors .count) k < t .processors .count) × T (standing sets k (processorOf sets (t .processors .count) k))
@@ -20,12 +20,12 @@ module _ {t : Table} {sets : List ℕ} (w : Whole t sets) where
       go (lowest m u h) = (m, u)
       go (nowhere e h) = let at = w .somewhere k l in absurd (h (at .0) (w .partial .processor k (at .0) (at .1)) (at .1))
 
-  pub names : t .tasks .count ≤ 24 → Names t sets (placementOf sets (t .tasks .count) (t .processors .count))
+  pub names : t .tasks .count ≤ 24 → Names t sets (processorsOf sets (t .tasks .count) (t .processors .count))
   names few = record {
     long = column-length 24 (t .tasks .count) (processorOf sets (t .processors .count));
     known = λ k l. rw (is k l) (processor-is k l .0);
     there = λ k l. rw (is k l) (processor-is k l .1);
   }
     where
-      is : (k : ℕ) → k < t .tasks .count → getD (placementOf sets (t .tasks .count) (t .processors .count)) k 0 ≡ processorOf sets (t .processors .count) k
+      is : (k : ℕ) → k < t .tasks .count → getD (processorsOf sets (t .tasks .count) (t .processors .count)) k 0 ≡ processorOf sets (t .processors .count) k
       is k l = column-in 24 (t .tasks .count) (processorOf sets (t .processors .count)) k few l

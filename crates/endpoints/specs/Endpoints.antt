@@ -40,5 +40,5 @@ abbrev pub processorOf : List ℕ → ℕ → ℕ → ℕ
 processorOf sets m k = firstBelow m (standing sets k)
 
 -- the processor of each of the n tasks, and zeros behind them
-abbrev pub placementOf : List ℕ → ℕ → ℕ → List ℕ
-placementOf sets n m = column 24 n (processorOf sets m)
+abbrev pub processorsOf : List ℕ → ℕ → ℕ → List ℕ
+processorsOf sets n m = column 24 n (processorOf sets m)

@@ -2,7 +2,7 @@
 ghost use mathlib.Core.Path.{_≡_};
 ghost use Prim.Native.Nat.{_<_, _≤_};
 ghost use Rattle.table.specs.Sound.{Sound};
-ghost use Rattle.endpoints.specs.Endpoints.{startOf, processorOf, placementOf};
+ghost use Rattle.endpoints.specs.Endpoints.{startOf, processorOf, processorsOf};
 use numbers::wide;
 use partial::Sizes;
 use partial::State;
@@ -52,7 +52,7 @@ fn processor_of(sets: [u32; 8], m: usize, k: usize) -> u8
 // The processor of each task of a whole placement, 0 beyond the tasks.
 pub fn placement_of(sizes: Sizes, sets: [u32; 8]) -> [u8; 24]
     requires { ⌜ (sizes .tasks ≤ 24) × (sizes .processors ≤ 8) ⌝ }
-    ensures { λ r. ⌜ r ≡ placementOf sets (sizes .tasks) (sizes .processors) ⌝ }
+    ensures { λ r. ⌜ r ≡ processorsOf sets (sizes .tasks) (sizes .processors) ⌝ }
 {
     let n = sizes.tasks;
     let m = sizes.processors;

@@ -18,7 +18,7 @@ use Rattle.mask.specs.Mask.{has}
 use Rattle.mask.proofs.Laws.{has-zero}
 use Rattle.schedule.specs.Periodic.{Tasks, LateSet}
 use Rattle.schedule.specs.Arrays.{InLimits, Says}
-use Rattle.known.specs.Known.{Knows, placeOf, noted}
+use Rattle.known.specs.Known.{Knows, placeOf, withVerdict}
 
 -- a late set has a task
 late-member : {s : Tasks} {on : ℕ → Bool} → LateSet s on → (k : ℕ) × T (on k)
@@ -82,10 +82,10 @@ module _ {s : Tasks} {known : List ℕ} (k : Knows s known) where
 -- ---- the table after a set was asked for: its word j has the set, or is written anew
 
 module _ (known : List ℕ) (late : Bool) {j x : ℕ} (e : j ≡ placeOf x) where
-  pub noted-hit : getD known j 0 / 2 ≡ x → known ≡ noted known x late
-  unfolding noted
+  pub noted-hit : getD known j 0 / 2 ≡ x → known ≡ withVerdict known x late
+  unfolding withVerdict
   noted-hit hit = rw (← e, eq-eqb _ x hit) refl
 
-  pub noted-miss : (getD known j 0 / 2 ≡ x → ⊥) → set known j (2 * x + boolByte late) ≡ noted known x late
-  unfolding noted
+  pub noted-miss : (getD known j 0 / 2 ≡ x → ⊥) → set known j (2 * x + boolByte late) ≡ withVerdict known x late
+  unfolding withVerdict
   noted-miss miss = rw (← e, ne-eqb _ x miss) refl

@@ -19,5 +19,5 @@ abbrev pub placeOf : ℕ → ℕ
 placeOf x = x * 2654435761 % 4294967296 / 524288
 
 -- the table after a set was asked for, with the verdict on it: as it was where its word has the set, else with that word anew
-unfoldable pub noted : List ℕ → ℕ → Bool → List ℕ
-noted known x late = cond (eqb (getD known (placeOf x) 0 / 2) x) known (set known (placeOf x) (2 * x + boolByte late))
+unfoldable pub withVerdict : List ℕ → ℕ → Bool → List ℕ
+withVerdict known x late = cond (eqb (getD known (placeOf x) 0 / 2) x) known (set known (placeOf x) (2 * x + boolByte late))

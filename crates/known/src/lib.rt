@@ -3,7 +3,7 @@ ghost use mathlib.Core.Path.{_≡_};
 ghost use Rattle.mask.specs.Mask.{has};
 ghost use Rattle.schedule.specs.Periodic.{LateSet};
 ghost use Rattle.schedule.specs.Arrays.{tasksOf, InLimits, Says};
-ghost use Rattle.known.specs.Known.{Knows, placeOf, noted};
+ghost use Rattle.known.specs.Known.{Knows, placeOf, withVerdict};
 use schedule::Timing;
 
 // 8,192 words for sets, and as many for hints, of which nothing is claimed.
@@ -19,7 +19,7 @@ pub fn place_of(set: u32) -> usize
 // Whether the set has a late job in the tick run: from the table, or worked out and put there.
 pub fn is_late(timing: &Timing, n: usize, set: u32, known: &mut Known) -> bool
     requires { ⌜ InLimits n (now timing) set × Knows (tasksOf n (now timing)) (now known) ⌝ }
-    ensures { λ r. ⌜ Says r (LateSet (tasksOf n (now (timing .entry))) (has set)) × Knows (tasksOf n (now (timing .entry))) (now (known .exit)) × (now (known .exit) ≡ noted (now (known .entry)) set r) ⌝ }
+    ensures { λ r. ⌜ Says r (LateSet (tasksOf n (now (timing .entry))) (has set)) × Knows (tasksOf n (now (timing .entry))) (now (known .exit)) × (now (known .exit) ≡ withVerdict (now (known .entry)) set r) ⌝ }
 {
     let at = place_of(set);
     let word = known[at];

@@ -9,7 +9,7 @@ use lib.Dec.{eqb}
 use Rattle.mask.specs.Mask.{has}
 use Rattle.schedule.specs.Periodic.{Tasks, LateSet}
 use Rattle.schedule.specs.Response.{lateTest}
-use Rattle.known.specs.Known.{noted}
+use Rattle.known.specs.Known.{withVerdict}
 use Rattle.ledger.specs.Ledger.{coveredBy, hinted, testBy, testOf, knownAfter, Ledger, Clear, Verdict, Noted}
 use Rattle.ledger.proofs.Growth.{grows-refl}
 
@@ -20,11 +20,11 @@ module _ {s : Tasks} {places count : ℕ} {list : List ℕ} (w : Ledger s places
     unfolding testOf
     test-is l c f = rw (is-late, l, c, f) refl
 
-    pub known-asked : (known : List ℕ) {after : List ℕ} → (late && listing) ≡ false → after ≡ noted known x late → after ≡ knownAfter s listing x list count known
+    pub known-asked : (known : List ℕ) {after : List ℕ} → (late && listing) ≡ false → after ≡ withVerdict known x late → after ≡ knownAfter s listing x list count known
     unfolding knownAfter
     known-asked known e a = rw (← is-late, e) a
 
-    pub known-looked : (known : List ℕ) {asked after : List ℕ} → (late && listing) ≡ true → asked ≡ noted known x late → after ≡ hinted asked list count x
+    pub known-looked : (known : List ℕ) {asked after : List ℕ} → (late && listing) ≡ true → asked ≡ withVerdict known x late → after ≡ hinted asked list count x
         → after ≡ knownAfter s listing x list count known
     unfolding knownAfter
     known-looked known e a b = rw (← is-late, e, ← a) b

@@ -12,7 +12,7 @@ use Rattle.schedule.specs.Periodic.{Tasks, LateSet}
 use Rattle.schedule.specs.Response.{lateTest}
 use Rattle.conflict.specs.Conflict.{Minimal}
 use Rattle.answer.specs.Answer.{conflictBytes, records, laid, maskAt}
-use Rattle.known.specs.Known.{placeOf, noted}
+use Rattle.known.specs.Known.{placeOf, withVerdict}
 use Rattle.ledger.specs.declared.Tested.{Tested}
 
 -- the masks of the first `count` records
@@ -83,7 +83,7 @@ testOf s listing places x list count = testBy (lateTest s (has x)) listing (cove
 unfoldable pub knownAfter : Tasks → Bool → ℕ → List ℕ → ℕ → List ℕ → List ℕ
 knownAfter s listing x list count known =
     let late = lateTest s (has x) in
-    cond (late && listing) (hinted (noted known x late) list count x) (noted known x late)
+    cond (late && listing) (hinted (withVerdict known x late) list count x) (withVerdict known x late)
 
 -- what the test of a set leaves: a list that may have grown by a conflict within the set, and the verdict
 pub record Noted (s : Tasks) (listing : Bool) (places set : ℕ) (old : List ℕ) (before : ℕ) (new : List ℕ) (r : Tested) : Type 0 where

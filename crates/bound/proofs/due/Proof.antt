@@ -5,22 +5,22 @@ use native.Mathlib.Omega.{arith}
 use borrow.Author.Needs.{needs}
 use borrow.Author.Tests.{le-leb, lt-leb, eq-eqb, ne-eqb}
 use lib.Dec.{leb}
-use Rattle.mask.specs.Mask.{size}
-use Rattle.mask.proofs.Laws.{size-ones}
+use Rattle.mask.specs.Mask.{cardinality}
+use Rattle.mask.proofs.Laws.{cardinality-ones}
 use Rattle.bound.specs.Due.{askedNotes}
 use Rattle.bound.proofs.due.Statement.{statement}
 use Rattle.bound.proofs.due.Tie as tie
 
 -- four tasks are open or more
-many : (e : tie.Else1) → leb 4 (size 32 (e .before .args .left)) ≡ true
-many e = le-leb 4 (size 32 (e .before .args .left)) (omega (arith, size-ones 32 (e .before .args .left) (search needs)))
+many : (e : tie.Else1) → leb 4 (cardinality 32 (e .before .args .left)) ≡ true
+many e = le-leb 4 (cardinality 32 (e .before .args .left)) (omega (arith, cardinality-ones 32 (e .before .args .left) (search needs)))
 
 pub due-spec : {M : Type 1} → statement M
 unfolding askedNotes
 due-spec =
     tie.close
     (tie.spec
-    (λ c. let few = lt-leb 4 (size 32 (c .before .args .left)) (omega (arith, size-ones 32 (c .before .args .left) (search needs))) in rw few (refl, refl))  -- returns
+    (λ c. let few = lt-leb 4 (cardinality 32 (c .before .args .left)) (omega (arith, cardinality-ones 32 (c .before .args .left) (search needs))) in rw few (refl, refl))  -- returns
     (λ c. search needs)  -- element-copy-out-if2
     (λ c. rw (many (c .before .before), ne-eqb _ _ (c .if2 .taken)) (refl, refl))  -- returns-2
     (λ c. search needs)  -- element-copy-out-skips

@@ -3,13 +3,13 @@ use mathlib.Core.Path.{_≡_}
 use Prim.Native.Nat.{_-_, _≤_}
 use native.Mathlib.Omega.{arith}
 use borrow.Author.Needs.{needs}
-use Rattle.endpoints.specs.Endpoints.{placementOf}
+use Rattle.endpoints.specs.Endpoints.{processorsOf}
 use Rattle.endpoints.proofs.FilledUp.{column-start, column-next}
 use Rattle.endpoints.proofs.placement_of.Statement.{statement}
 use Rattle.endpoints.proofs.placement_of.Tie as tie
 
 abbrev Inv-loop : tie.InvT-loop
-Inv-loop sets n m bytes₀ k₀ bytes k = (k ≤ n) × (bytes ≡ placementOf sets k m)
+Inv-loop sets n m bytes₀ k₀ bytes k = (k ≤ n) × (bytes ≡ processorsOf sets k m)
 
 abbrev μ-loop : tie.MeasureT-loop
 μ-loop sets n m bytes₀ k₀ bytes k = n - k
