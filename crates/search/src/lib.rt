@@ -50,7 +50,8 @@ fn search_table(table: Table, buffer: &mut [u8]) -> Answer
     }
     let places = answer::places(buffer.len(), n);
     let ran = run::run_table(table, &mut buffer[n + 2..], places);
-    answer::put_end(&mut buffer[n + 2..], ran.count, !ran.cut);
+    let cut = ran.cut;
+    answer::put_end(&mut buffer[n + 2..], ran.count, !cut);
     let on = ran.on;
     put_head(table, ran.found, on, buffer);
     Answer::Written(n + 5 + 6 * ran.count)

@@ -1,5 +1,6 @@
 -- `placement_conflict` meets its contract. Assumes nothing.
 use mathlib.Core.Path.{sym, ap, _∙_}
+use native.Mathlib.Omega.{arith}
 use borrow.Author.Needs.{needs}
 use Rattle.conflict.proofs.AnswerPlace.{answer-place}
 use Rattle.export.specs.Answers.{conflictAs}
@@ -12,7 +13,7 @@ placement-conflict-spec =
     (tie.spec
     (λ c κs. search needs)  -- check-conflict-requires
     (λ c. search needs)  -- enum-known-answer
-    (λ c κs. answer-place _ _ _ _ (sym (c .before .before .before .check-conflict .ensures .value) ∙ c .before .answer .given .1))  -- refused-as-requires
+    (λ c κs. omega (arith, answer-place _ _ _ _ (sym (c .before .before .before .check-conflict .ensures .value) ∙ c .before .answer .given .1)))  -- refused-as-requires
     (λ c. search needs)  -- enum-known-answer-2
     (λ c κs. search needs)  -- number-requires
     (λ c. c .refused-as .ensures ∙ ap conflictAs (sym (c .before .before .answer .given .1) ∙ c .before .before .before .before .check-conflict .ensures .value))  -- returns

@@ -22,7 +22,7 @@ listing-spec =
     let w = v .before .before .before in
     let a = answered (w .args .file .now) (w .args .answer .now) (v .search .last .1 .0) (v .search .result) (m .searched2 .given .0 .0) (λ k. v .before .before .shared-slice-known .given k .fits) (v .search .ensures) (m .searched2 .given .1) in
     let e = r .read .ensures in
-    (rw e (a .sound), rw e (a .least), omega (arith, a .most)))  -- put-answer-requires
+    (rw e (a .sound), rw e (omega (arith, a .least, a .most)), omega (arith, a .most)))  -- put-answer-requires
     (λ c.
     let m = c .before .before .before .before in
     let v = m .before .before in

@@ -12,6 +12,10 @@ use Rattle.search.proofs.Writing.{Final, final-at, ran-final, ran-head,
 use Rattle.search.proofs.search_table.Statement.{statement}
 use Rattle.search.proofs.search_table.Tie as tie
 
+-- 12: nothing is written
+returns : tie.Need-returns
+returns c = rw (lt-ltb _ _ (c .if1 .taken)) (refl, refl)
+
 -- what the run left of the list
 final : (r : tie.After-run-table) → let b = r .before .before .before .before .before .before in let n = b .args .table .tasks .count in let old = b .args .buffer .now in
     Final (b .args .table) (places n (length old)) (midOf (n + 2) (length old - (n + 2)) old) (r .run-table .last .1 .0) (r .run-table .result .count) (r .run-table .result .cut)
@@ -30,7 +34,7 @@ search-table-spec =
     tie.close
     (tie.spec
     (λ c. search needs)  -- add-if1
-    (λ c. rw (lt-ltb _ _ (c .if1 .taken)) (refl, refl))  -- returns
+    returns
     (λ c κs. search needs)  -- places-requires
     (λ c. search needs)  -- add-run-table
     (λ c. search needs)  -- sub-run-table
@@ -42,21 +46,21 @@ search-table-spec =
     (λ c. search needs)  -- part-put-end-start
     (λ c. search needs)  -- part-put-end-end
     (λ c κs.
-    let r = c .before .before .before .before in
+    let r = c .before .before .before in
     let b = r .before .before .before .before .before .before in
-    end-room (b .args .table) (b .args .buffer .now) _ [] _ _ (r .before .before .before .if1 .left) (final r))  -- put-end-requires
+    omega (arith, end-room (b .args .table) (b .args .buffer .now) _ [] _ _ (r .before .before .before .if1 .left) (final r)))  -- put-end-requires
     (λ c κs.
     let e = c .before .before .before .before in
-    let r = e .before .before .before .before .before in
+    let r = e .before .before .before .before in
     let b = r .before .before .before .before .before .before in
     (b .pre, ran-head (b .pre) _ _ _ (r .run-table .result) (r .run-table .ensures), head-room (b .args .table) (b .args .buffer .now) _ (e .put-end .last .0) _ _ (r .before .before .before .if1 .left) (final r)))  -- put-head-requires
     (λ c. search needs)  -- add-t9
-    (λ c. omega (arith, counted (c .before .before .before .before .before .before .before .before .before .before .before .before .before)))  -- mul-t8
-    (λ c. omega (arith, counted (c .before .before .before .before .before .before .before .before .before .before .before .before .before)))  -- add-t21
+    (λ c. omega (arith, counted (c .before .before .before .before .before .before .before .before .before .before .before .before)))  -- mul-t8
+    (λ c. omega (arith, counted (c .before .before .before .before .before .before .before .before .before .before .before .before)))  -- add-t21
     (λ c. search needs)  -- same-length
     (λ c.
     let h = c .before .before .before in
     let e = h .before .before .before .before .before in
-    let r = e .before .before .before .before .before in
+    let r = e .before .before .before .before in
     let b = r .before .before .before .before .before .before in
     rw (le-ltb _ _ (r .before .before .before .if1 .left)) (written (b .args .table) (b .args .buffer .now) _ _ _ _ (r .before .before .before .if1 .left) (final r) _ (e .put-end .ensures) (h .put-head .ensures))))  -- returns-2
