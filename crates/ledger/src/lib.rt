@@ -60,7 +60,7 @@ pub fn test(
         return Tested { bad: true, count };
     }
     if covered(list, count, set, known) {
-        return Tested { bad: true, count };
+        return Tested { bad: true, count }; // on whatever processor the conflict was seen
     }
     if count == mode.places {
         return Tested { bad: false, count };
