@@ -31,10 +31,10 @@ pub fn covered(list: &[u8], count: usize, set: u32, known: &mut Known) -> bool
 {
     let at = 8192 + known::place_of(set);
     let hint = (known[at] % 16777216) as usize;
-    if hint < count && records::holds(list, hint, set) {
+    if hint < count && answer::holds(list, hint, set) {
         return true;
     }
-    let number = records::covering(list, count, set);
+    let number = answer::covering(list, count, set);
     known[at] = (number % 16777216) as u32;
     number < count
 }
@@ -66,7 +66,7 @@ pub fn test(
         return Tested { bad: false, count };
     }
     let conflict = conflict::extract(timing, n, set);
-    records::append(list, count, conflict);
+    answer::append(list, count, conflict);
     Tested {
         bad: true,
         count: count + 1,

@@ -5,3 +5,5 @@ pub mod Trying
 pub mod Deciding
 pub mod NextState
 pub mod Whole
+pub mod Empty
+pub mod Naming

@@ -1,2 +1,3 @@
 pub mod Partial
 pub mod Tests
+pub mod Start

@@ -1,15 +1,17 @@
-// A partial placement: which rules one task more on a processor would break, and the state with it there.
+// A partial placement: the empty one, which rules one task more on a processor would break, and the state with it there.
 ghost use mathlib.Core.Path.{_≡_};
 ghost use Prim.Native.Nat.{_<_, _≤_};
 ghost use lib.Dec.{T};
 ghost use Rattle.mask.specs.Mask.{has};
 ghost use Rattle.table.specs.declared.Table.{Table};
+ghost use Rattle.table.specs.Sound.{Sound};
 ghost use Rattle.schedule.specs.Arrays.{Says};
 ghost use Rattle.rules.specs.Placement.{andTask};
 ghost use Rattle.rules.specs.Rules.{Keeps};
 ghost use Rattle.rules.specs.Sets.{standing};
 ghost use Rattle.partial.specs.declared.State.{State};
 ghost use Rattle.partial.specs.Partial.{Lent, siteOf, Fits, StepOf};
+ghost use Rattle.partial.specs.Start.{startOf};
 ghost use Rattle.partial.specs.Tests.{neither, suits, joins, between, SmallMessages, trialOf, Enough, stepAfter, stepOf};
 use columns::AMOUNT;
 use columns::Columns;
@@ -22,6 +24,7 @@ use columns::RECEIVER;
 use columns::RESIDENCE;
 use columns::SENDER;
 use numbers::wide;
+use table::Table;
 
 // How many there are of each.
 pub struct Sizes {
@@ -46,6 +49,32 @@ pub struct Site {
     pub memory: u64,
     pub load: u64,
     pub traffic: u64,
+}
+
+// The state that a search begins with: nothing is placed yet.
+pub fn start(t: Table) -> State
+    requires { ⌜ Sound t ⌝ }
+    ensures { λ r. ⌜ r ≡ startOf t ⌝ }
+{
+    let processors = t.processors;
+    let tasks = t.tasks;
+    let m = processors.count;
+    let h = t.hyperperiod;
+    let mut memory = [0u64; 8];
+    let mut load = [0u64; 8];
+    let mut p: usize = 0;
+    while p < m {
+        memory[p] = wide(processors.memory[p]);
+        load[p] = wide(processors.limit[p]) * h / 1000;
+        p += 1;
+    }
+    State {
+        on: [0; 8],
+        left: mask::all_below(tasks.count),
+        memory,
+        load,
+        traffic: wide(t.capacity) * h,
+    }
 }
 
 // The tasks below n that are in neither set.

@@ -1,13 +1,15 @@
 -- A placement as the code holds it: the set of tasks on each processor, as masks.
+use mathlib.Core.Path.{_≡_}
 use mathlib.Core.Bool.{Bool, not, _&&_}
 use mathlib.Core.List.{List}
 use Prim.Native.Nat.{ℕ, _*_, _/_, _≤_, _<_}
 use lib.Bits.{bitAnd}
-use lib.Dec.{leb, eqb}
+use lib.Dec.{T, leb, eqb}
 use lib.ListN.{length, getD}
-use Rattle.finite.specs.Finite.{only, sumTo, someBelow}
+use Rattle.finite.specs.Finite.{only, sumTo, someBelow, firstBelow}
 use Rattle.mask.specs.Mask.{has, cardinality, maskOf}
 use Rattle.table.specs.declared.Tasks.{Tasks}
+use Rattle.table.specs.declared.Table.{Table}
 use Rattle.table.specs.Table.{column}
 
 -- task k is in the set of processor p
@@ -22,6 +24,20 @@ pub record Placeable (q : List ℕ) : Type 0 where
 -- the sets of a placement's tasks
 unfoldable pub setsOf : List ℕ → List ℕ
 setsOf q = column 8 8 (λ p. maskOf (length q) (λ k. eqb (getD q k 0) p))
+
+-- the bytes q name for each task the processor on which it stands
+pub record Names (t : Table) (sets q : List ℕ) : Type 0 where
+  pub long : length q ≡ 24
+  pub known : (k : ℕ) → k < t .tasks .count → getD q k 0 < t .processors .count
+  pub there : (k : ℕ) → k < t .tasks .count → T (standing sets k (getD q k 0))
+
+-- the processor of task k, the lowest of the m that has it
+abbrev pub processorOf : List ℕ → ℕ → ℕ → ℕ
+processorOf sets m k = firstBelow m (standing sets k)
+
+-- the processor of each of the n tasks, and zeros behind them
+abbrev pub processorsOf : List ℕ → ℕ → ℕ → List ℕ
+processorsOf sets n m = column 24 n (processorOf sets m)
 
 -- the sets share a task
 unfoldable pub meets : ℕ → ℕ → Bool

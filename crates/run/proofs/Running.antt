@@ -19,7 +19,7 @@ use Rattle.ledger.proofs.Append.{ledger-start}
 use Rattle.columns.specs.Columns.{columnsOf, messagesOf}
 use Rattle.partial.specs.declared.Sizes.{Sizes}
 use Rattle.partial.specs.declared.State.{State}
-use Rattle.endpoints.specs.Endpoints.{Started}
+use Rattle.partial.specs.Start.{Started}
 use Rattle.region.specs.Region.{Within, Settled}
 use Rattle.region.specs.Lends.{Lends}
 use Rattle.region.proofs.Settling.{settled-region, settled-covered, settled-cut}

@@ -3,7 +3,7 @@ ghost use Prim.Native.Nat.{_+_, _*_, _≤_};
 ghost use lib.ListN.{length};
 ghost use Rattle.table.specs.declared.Table.{Table};
 ghost use Rattle.table.specs.Sound.{Sound};
-ghost use Rattle.endpoints.specs.Endpoints.{Started};
+ghost use Rattle.partial.specs.Start.{Started};
 ghost use Rattle.region.specs.Lends.{Lends};
 ghost use Rattle.memo.specs.Memo.{Learnt};
 ghost use Rattle.run.specs.Run.{SizesOf, RanAs};
@@ -114,7 +114,7 @@ pub fn run_table(table: Table, list: &mut [u8], places: usize) -> Ran
     let timing = timing::timing_of(table);
     let rows = columns::columns_of(table);
     let messages = columns::messages_of(table);
-    let s = endpoints::start(table);
+    let s = partial::start(table);
     let columns = guide::guided(&timing, &rows, &messages, sizes, s);
     // The search's own numbers: where the random numbers begin, and one try for the bound.
     let mut notes = [0u32; 64];

@@ -13,7 +13,7 @@ use Rattle.wire.proofs.Part.{lent, back}
 use Rattle.table.specs.declared.Table.{Table}
 use Rattle.table.specs.Sound.{Sound}
 use Rattle.rules.specs.Placement.{placed}
-use Rattle.rules.specs.Sets.{standing}
+use Rattle.rules.specs.Sets.{standing, Names}
 use Rattle.judge.specs.Judge.{PlacementOf}
 use Rattle.judge.specs.Good.{Good}
 use Rattle.answer.specs.Answer.{foundHead, endBytes, places, countOf, laid, Listing}
@@ -24,7 +24,6 @@ use Rattle.goal.proofs.First.{Before, earlier-before, before-earlier, found-hea
 use Rattle.ledger.specs.Ledger.{masksIn}
 use Rattle.ledger.proofs.Masks.{masks-long, listing-grown}
 use Rattle.partial.specs.Partial.{Whole}
-use Rattle.endpoints.specs.Endpoints.{Names}
 use Rattle.region.specs.Region.{Witness, Settled}
 use Rattle.rules.proofs.Placed.{placed-at, placed-is}
 use Rattle.region.proofs.Filling.{whole-placement}

@@ -7,7 +7,6 @@ ghost use Rattle.table.specs.Sound.{Sound};
 ghost use Rattle.goal.specs.Goal.{headOf};
 ghost use Rattle.search.specs.Search.{AnsweredOn, Searched};
 ghost use Rattle.search.specs.Steps.{HeadBy};
-use partial::Sizes;
 use table::Outcome;
 use table::Table;
 use verdict::Cause;
@@ -26,12 +25,7 @@ fn put_head(table: Table, found: bool, on: [u32; 8], buffer: &mut [u8])
     let tasks = table.tasks;
     let processors = table.processors;
     if found {
-        let sizes = Sizes {
-            tasks: tasks.count,
-            processors: processors.count,
-            messages: 0,
-        };
-        let placement = endpoints::placement_of(sizes, on);
+        let placement = rules::placement_of(on, tasks.count, processors.count);
         answer::put_found(buffer, &placement, tasks.count);
     } else {
         answer::put_none(buffer, tasks.count);

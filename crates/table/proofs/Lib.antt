@@ -2,6 +2,7 @@ pub mod Progress
 pub mod Scanning
 pub mod Columns
 pub mod Filling
+pub mod FilledUp
 pub mod Fine
 pub mod Ended
 pub mod Causes

@@ -1,7 +1,7 @@
 -- The rows of the table are what the search asks to be lent, and arrays of zeros are learnt.
 use native.Mathlib.Omega.{arith}
 use borrow.Author.Needs.{needs}
-use Rattle.endpoints.proofs.Empty.{started}
+use Rattle.partial.proofs.Empty.{started}
 use Rattle.known.proofs.Laws.{knows-start}
 use Rattle.memo.proofs.Laws.{learnt-start}
 use Rattle.run.proofs.Running.{lends-table, guide-limits}

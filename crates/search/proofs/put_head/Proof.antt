@@ -1,6 +1,6 @@
 -- `put_head` meets its contract: the head of a placement, or of none.
 use borrow.Author.Needs.{needs}
-use Rattle.endpoints.proofs.Naming.{names}
+use Rattle.partial.proofs.Naming.{names}
 use Rattle.search.proofs.Writing.{head-known, names-list}
 use Rattle.search.proofs.put_head.Statement.{statement}
 use Rattle.search.proofs.put_head.Tie as tie

@@ -3,9 +3,9 @@ use mathlib.Core.Path.{sym, _∙_}
 use Prim.Native.Nat.{_-_}
 use borrow.Author.Needs.{needs}
 use Rattle.finite.proofs.Search.{Searched, search-start, search-next, search-found, search-missed}
 use Rattle.rules.specs.Sets.{standing}
-use Rattle.endpoints.proofs.processor_of.Statement.{statement}
-use Rattle.endpoints.proofs.processor_of.Tie as tie
+use Rattle.rules.proofs.processor_of.Statement.{statement}
+use Rattle.rules.proofs.processor_of.Tie as tie
 
 abbrev Inv-loop : tie.InvT-loop
 Inv-loop m k sets p₀ p = Searched m (standing sets k) p

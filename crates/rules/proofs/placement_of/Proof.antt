@@ -3,10 +3,10 @@ use mathlib.Core.Path.{_≡_}
 use Prim.Native.Nat.{_-_, _≤_}
 use native.Mathlib.Omega.{arith}
 use borrow.Author.Needs.{needs}
-use Rattle.endpoints.specs.Endpoints.{processorsOf}
-use Rattle.endpoints.proofs.FilledUp.{column-start, column-next}
-use Rattle.endpoints.proofs.placement_of.Statement.{statement}
-use Rattle.endpoints.proofs.placement_of.Tie as tie
+use Rattle.rules.specs.Sets.{processorsOf}
+use Rattle.table.proofs.FilledUp.{column-start, column-next}
+use Rattle.rules.proofs.placement_of.Statement.{statement}
+use Rattle.rules.proofs.placement_of.Tie as tie
 
 abbrev Inv-loop : tie.InvT-loop
 Inv-loop sets n m bytes₀ k₀ bytes k = (k ≤ n) × (bytes ≡ processorsOf sets k m)
@@ -28,5 +28,5 @@ placement-of-spec =
     (λ c. let l = c .before in (omega arith, column-next _ (l .before .loop .inv .1) (search needs) (c .processor-of .ensures)))  -- loop-again
     (λ c.
     let l = c .before .loop in
-    let all : l .k ≡ c .before .before .args .sizes .tasks = omega arith in
+    let all : l .k ≡ c .before .before .args .n = omega arith in
     rw all at (l .inv .1)))  -- returns

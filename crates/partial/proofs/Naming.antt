@@ -7,9 +7,8 @@ use lib.ListN.{getD}
 use Rattle.finite.proofs.Search.{FirstBelow, first-below, lowest, nowhere}
 use Rattle.table.specs.declared.Table.{Table}
 use Rattle.table.proofs.Columns.{column-length, column-in}
-use Rattle.rules.specs.Sets.{standing}
+use Rattle.rules.specs.Sets.{standing, Names, processorOf, processorsOf}
 use Rattle.partial.specs.Partial.{Whole}
-use Rattle.endpoints.specs.Endpoints.{Names, processorOf, processorsOf}
 
 module _ {t : Table} {sets : List ℕ} (w : Whole t sets) where
   processor-is : (k : ℕ) → k < t .tasks .count → (processorOf sets (t .processors .count) k < t .processors .count) × T (standing sets k (processorOf sets (t .processors .count) k))

@@ -3,8 +3,8 @@ use mathlib.Core.Path.{ap, _∙_}
 use Prim.Native.Nat.{ℕ}
 use borrow.Author.Needs.{needs}
 use Rattle.mask.specs.Mask.{within}
-use Rattle.records.proofs.holds.Statement.{statement}
-use Rattle.records.proofs.holds.Tie as tie
+use Rattle.answer.proofs.holds.Statement.{statement}
+use Rattle.answer.proofs.holds.Tie as tie
 
 pub holds-spec : {M : Type 1} → statement M
 holds-spec =

@@ -6,10 +6,10 @@ use native.Mathlib.Omega.{arith}
 use borrow.Author.Needs.{needs}
 use lib.ListN.{getD}
 use Rattle.table.specs.Table.{column}
-use Rattle.endpoints.specs.Endpoints.{startOf}
-use Rattle.endpoints.proofs.FilledUp.{column-start, column-next}
-use Rattle.endpoints.proofs.start.Statement.{statement}
-use Rattle.endpoints.proofs.start.Tie as tie
+use Rattle.partial.specs.Start.{startOf}
+use Rattle.table.proofs.FilledUp.{column-start, column-next}
+use Rattle.partial.proofs.start.Statement.{statement}
+use Rattle.partial.proofs.start.Tie as tie
 
 abbrev Inv-loop : tie.InvT-loop
 Inv-loop t processors tasks m h memory₀ load₀ p₀ memory load p =

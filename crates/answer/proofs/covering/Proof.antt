@@ -4,9 +4,9 @@ use Prim.Native.Nat.{_-_}
 use native.Mathlib.Omega.{arith}
 use Rattle.finite.proofs.Search.{Searched, search-start, search-next, search-found, search-missed}
 use Rattle.mask.specs.Mask.{within}
 use Rattle.answer.specs.Answer.{maskAt}
-use Rattle.records.proofs.covering.Statement.{statement}
-use Rattle.records.proofs.covering.Tie as tie
+use Rattle.answer.proofs.covering.Statement.{statement}
+use Rattle.answer.proofs.covering.Tie as tie
 
 abbrev Inv-loop : tie.InvT-loop
 Inv-loop list count set j₀ j = Searched count (λ k. within (maskAt list k) set) j

@@ -19,7 +19,7 @@ use Rattle.rules.specs.Placement.{apart, together}
 use Rattle.rules.specs.Rules.{residenceBroken, coResidenceBroken, exclusionBroken, memoryOn, memoryBroken, loadOn, utilisationBroken, crosses, amountOf, traffic, networkBroken, Keeps}
 use Rattle.rules.specs.Sets.{standing}
 use Rattle.rules.proofs.Where.{apart-elim, together-elim, pair-elim}
-use Rattle.endpoints.specs.Endpoints.{startOf, Started}
+use Rattle.partial.specs.Start.{startOf, Started}
 
 module _ (t : Table) (on : ℕ → ℕ → Bool) (none : (k p : ℕ) → T (on k p) → ⊥) where
   no-memory : (p : ℕ) → memoryOn t on p ≡ 0

@@ -3,10 +3,10 @@ use mathlib.Core.List.{[], _∷_}
 use Prim.Native.Nat.{_*_}
 use borrow.Author.Needs.{needs}
 use Rattle.wire.proofs.Laws.{record-length}
 use Rattle.answer.specs.Answer.{conflictBytes}
 use Rattle.answer.proofs.Laws.{laid-part}
-use Rattle.records.proofs.append.Statement.{statement}
-use Rattle.records.proofs.append.Tie as tie
+use Rattle.answer.proofs.append.Statement.{statement}
+use Rattle.answer.proofs.append.Tie as tie
 
 pub append-spec : {M : Type 1} → statement M
 append-spec =

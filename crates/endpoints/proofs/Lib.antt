@@ -1,3 +1,0 @@
-pub mod FilledUp
-pub mod Empty
-pub mod Naming
