@@ -2,6 +2,7 @@
 ghost use mathlib.Core.Path.{_≡_};
 ghost use Prim.Native.Nat.{_≤_};
 ghost use lib.ListN.{length};
+ghost use Rattle.layout.specs.Format.{longest};
 ghost use Rattle.table.specs.Table.{readOf};
 ghost use Rattle.judge.specs.Judge.{judgeOf, judgementNumber};
 ghost use Rattle.conflict.specs.Count.{lateCountOf};
@@ -14,7 +15,7 @@ use verdict::Cause;
 
 // The refusal's number in the upper 32 bits, its place in the lower ones.
 fn refused_as(cause: Cause, place: usize) -> u64
-    requires { ⌜ place ≤ 1302 ⌝ }
+    requires { ⌜ place ≤ longest ⌝ }
     ensures { λ r. ⌜ r ≡ refusedAs cause place ⌝ }
 {
     (codes::cause_number(cause) as u64) * 4294967296 + (place as u64)

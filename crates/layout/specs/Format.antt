@@ -4,12 +4,14 @@ use mathlib.Core.Bool.{Bool, true, false}
 use mathlib.Core.List.{List, [], _∷_}
 use Prim.Native.Nat.{ℕ, _+_, _*_, _≤_}
 use lib.ListN.{length, getD}
+use Rattle.finite.specs.Finite.{sumTo}
 use Rattle.wire.specs.Wire.{number, markAt}
 use Rattle.layout.specs.declared.Kind.{Kind}
 use Rattle.layout.specs.declared.Kind.the-variants.{Network, Processor, Task, CoResident, Exclusive, Message}
 use Rattle.layout.specs.declared.Mark.{Mark}
 use Rattle.layout.specs.declared.Mark.the-variants.{Known, Unknown}
 use Rattle.layout.specs.declared.Progress.{Progress}
+use Rattle.layout.specs.declared.Series.{Series}
 use Rattle.layout.specs.declared.Shape.{Shape}
 
 -- one line of 01's table: its place in the order, the mark, the widths of the fields in bytes, how many there may be, and the first kind that may follow
@@ -29,6 +31,13 @@ row Task = record { order = 2; mark = 84 ∷ 75 ∷ []; widths = 4 ∷ 4 ∷ 4 �
 row CoResident = record { order = 3; mark = 67 ∷ 79 ∷ []; widths = 4 ∷ []; most = 16; next = 3 }
 row Exclusive = record { order = 4; mark = 69 ∷ 88 ∷ []; widths = 4 ∷ []; most = 16; next = 4 }
 row Message = record { order = 5; mark = 77 ∷ 83 ∷ []; widths = 1 ∷ 1 ∷ 4 ∷ []; most = 64; next = 5 }
+
+-- the kinds, in the file's order
+abbrev pub kinds : List Kind
+kinds = Network ∷ Processor ∷ Task ∷ CoResident ∷ Exclusive ∷ Message ∷ []
+
+abbrev pub inOrder : ℕ → Kind
+inOrder i = getD kinds i Network
 
 abbrev pub totalWidth : List ℕ → ℕ
 totalWidth [] = 0
@@ -85,37 +94,44 @@ amount = field Message 2
 abbrev pub count : Progress → Kind → ℕ
 count x k = getD (x .counts) (row k .order) 0
 
--- the bytes of the records of a kind
-abbrev pub extent : Progress → Kind → ℕ
-extent x k = size k * count x k
+-- the bytes of the first n kinds, with c k records of the kind k
+unfoldable pub bytesOf : (Kind → ℕ) → ℕ → ℕ
+bytesOf c n = sumTo n (λ i. size (inOrder i) * c (inOrder i))
 
 -- where the first record of a kind stands: behind all those of the kinds before it
 abbrev pub start : Progress → Kind → ℕ
-start x Network = 0
-start x Processor = extent x Network
-start x Task = extent x Network + extent x Processor
-start x CoResident = extent x Network + extent x Processor + extent x Task
-start x Exclusive = extent x Network + extent x Processor + extent x Task + extent x CoResident
-start x Message = extent x Network + extent x Processor + extent x Task + extent x CoResident + extent x Exclusive
+start x k = bytesOf (count x) (row k .order)
+
+-- the records of a kind, one behind the other, and where record j of them stands
+abbrev pub seriesOf : Progress → Kind → Series
+seriesOf x k = record { first = start x k; size = size k }
+
+unfoldable pub placeIn : Series → ℕ → ℕ
+placeIn r j = r .first + r .size * j
 
 -- where record j of a kind stands
 abbrev pub place : Progress → Kind → ℕ → ℕ
-place x k j = start x k + size k * j
+place x k = placeIn (seriesOf x k)
 
--- the kind whose mark stands at a place
+-- where all the records end
+abbrev pub end : Progress → ℕ
+end x = bytesOf (count x) (length kinds)
+
+-- the bytes of the longest file: of each kind as many records as there may be
+unfoldable pub longest : ℕ
+longest = bytesOf (λ k. row k .most) (length kinds)
+
+-- the kind, of some, whose mark stands at a place
 abbrev pub firstMark : Bool → Kind → Mark → Mark
 firstMark true k m = Known k
 firstMark false k m = m
 
+abbrev pub markedOf : List Kind → List ℕ → ℕ → Mark
+markedOf [] s at = Unknown
+markedOf (k ∷ ks) s at = firstMark (markAt s at (row k .mark)) k (markedOf ks s at)
+
 unfoldable pub kindAt : List ℕ → ℕ → Mark
-kindAt s at =
-    firstMark (markAt s at (row Network .mark)) Network
-    (firstMark (markAt s at (row Processor .mark)) Processor
-    (firstMark (markAt s at (row Task .mark)) Task
-    (firstMark (markAt s at (row CoResident .mark)) CoResident
-    (firstMark (markAt s at (row Exclusive .mark)) Exclusive
-    (firstMark (markAt s at (row Message .mark)) Message
-    Unknown)))))
+kindAt = markedOf kinds
 
 -- no kind has more records than it may
 pub record Counted (x : Progress) : Type 0 where

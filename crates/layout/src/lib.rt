@@ -2,7 +2,7 @@
 ghost use mathlib.Core.Path.{_≡_};
 ghost use Prim.Native.Nat.{_+_, _≤_, _<_};
 ghost use lib.ListN.{length};
-ghost use Rattle.layout.specs.Format.{row, shape, shapeOf, kindAt, start, place, Counted};
+ghost use Rattle.layout.specs.Format.{row, shape, shapeOf, kindAt, count, start, seriesOf, placeIn, place, longest, Counted};
 
 // The kinds of record, in the file's order.
 pub enum Kind {
@@ -33,6 +33,12 @@ pub struct Shape {
     pub size: usize,
     pub most: usize,
     pub next: usize,
+}
+
+// Records of one kind: where the first stands, and the bytes of each.
+pub struct Series {
+    first: usize,
+    size: usize,
 }
 
 impl Shape {
@@ -87,8 +93,17 @@ pub fn kind_at(file: &[u8], at: usize) -> Mark
     Mark::Unknown
 }
 
+// How many records of a kind were taken.
+pub fn count_of(x: Progress, kind: Kind) -> usize
+    ensures { λ r. ⌜ r ≡ count x kind ⌝ }
+{
+    let shape = shape_of(kind);
+    let order = shape.order;
+    x.counts[order]
+}
+
 // Where the first record of a kind stands, behind those of the kinds before it.
-pub fn first_of(x: Progress, kind: Kind) -> usize
+fn first_of(x: Progress, kind: Kind) -> usize
     requires { ⌜ Counted x ⌝ }
     ensures { λ r. ⌜ r ≡ start x kind ⌝ }
 {
@@ -107,11 +122,30 @@ pub fn first_of(x: Progress, kind: Kind) -> usize
     }
 }
 
+// The records of a kind, one behind the other.
+pub fn series_of(x: Progress, kind: Kind) -> Series
+    requires { ⌜ Counted x ⌝ }
+    ensures { λ r. ⌜ r ≡ seriesOf x kind ⌝ }
+{
+    let shape = shape_of(kind);
+    Series {
+        first: first_of(x, kind),
+        size: shape.size,
+    }
+}
+
+// Where record j of a series stands.
+pub fn place_in(series: Series, j: usize) -> usize
+    requires { ⌜ placeIn series j ≤ longest ⌝ }
+    ensures { λ r. ⌜ r ≡ placeIn series j ⌝ }
+{
+    series.first + series.size * j
+}
+
 // Where record j of a kind stands.
 pub fn place_of(x: Progress, kind: Kind, j: usize) -> usize
     requires { ⌜ Counted x × (j < row kind .most) ⌝ }
     ensures { λ r. ⌜ r ≡ place x kind j ⌝ }
 {
-    let shape = shape_of(kind);
-    first_of(x, kind) + shape.size * j
+    place_in(series_of(x, kind), j)
 }

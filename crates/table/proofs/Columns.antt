@@ -1,5 +1,5 @@
 -- A column of n numbers and zeros behind them: its length, and what stands at each place. Assumes nothing.
-use mathlib.Core.Path.{_≡_, refl, ap, subst, _∙_}
+use mathlib.Core.Path.{_≡_, refl, sym, ap, subst, _∙_}
 use mathlib.Core.Bool.{Bool, true, false}
 use mathlib.Core.List.{List, [], _∷_}
 use Prim.Native.Nat.{ℕ, zero, suc, _+_, _^_, _≤_, _<_}
@@ -9,8 +9,8 @@ use native.Mathlib.Omega.{arith}
 use native.Mathlib.Decide.{ℕ-discrete, decLt}
 use borrow.Author.Tests.{lt-ltb, le-ltb}
 use lib.Dec.{ltb}
-use lib.ListN.{length, getD, length-append, List·getD-append, List·getD-eq-default}
-use lib.Seq.{getD-at}
+use lib.ListN.{length, getD, set, length-set, length-append, List·getD-append, List·getD-eq-default}
+use lib.Seq.{getD-at, getD-set-same, getD-set-other, ext-getD}
 use lib.Pow.{pow-pos}
 use Rattle.finite.specs.Finite.{only}
 use Rattle.layout.specs.declared.Kind.{Kind}
@@ -47,6 +47,15 @@ column-beyond p n f j l = go (decLt j p)
     go : Dec (j < p) → getD (column p n f) j 0 ≡ 0
     go (yes k) = column-at p n f j k ∙ ap (λ (b : Bool). only b (f j)) (le-ltb j n l)
     go (no k) = List·getD-eq-default (column p n f) 0 (omega (arith, column-length p n f))
+
+-- one number more
+pub column-more : (p n : ℕ) (f : ℕ → ℕ) → n < p → set (column p n f) n (f n) ≡ column p (suc n) f
+column-more p n f l = ext-getD 0 (set (column p n f) n (f n)) (column p (suc n) f) (length-set (column p n f) n (f n) ∙ column-length p n f ∙ sym (column-length p (suc n) f)) (λ i m. go i (ℕ-discrete i n) (decLt i n))
+  where
+    go : (i : ℕ) → Dec (i ≡ n) → Dec (i < n) → getD (set (column p n f) n (f n)) i 0 ≡ getD (column p (suc n) f) i 0
+    go i (yes e) d = rw e (getD-set-same (column p n f) n (f n) 0 (omega (arith, column-length p n f)) ∙ sym (column-in p (suc n) f n l (omega arith)))
+    go i (no e) (yes m) = getD-set-other (column p n f) n i (f n) 0 e ∙ column-in p n f i (omega arith) m ∙ sym (column-in p (suc n) f i l (omega arith))
+    go i (no e) (no m) = getD-set-other (column p n f) n i (f n) 0 e ∙ column-beyond p n f i (omega arith) ∙ sym (column-beyond p (suc n) f i (omega arith))
 
 -- numbers of so many bits
 pub column-sound : (p n bits : ℕ) (f : ℕ → ℕ) → ((j : ℕ) → f j < 2 ^ bits) → Column p n bits (column p n f)

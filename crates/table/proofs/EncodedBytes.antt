@@ -6,10 +6,10 @@ use lib.Dec.{lit<}
 use native.Mathlib.Nat.{mod-lt}
 use Rattle.wire.specs.Wire.{bytes, Bytes}
 use Rattle.layout.specs.declared.Kind.{Kind}
-use Rattle.layout.specs.declared.Kind.the-variants.{Network, Processor, Task, CoResident, Exclusive, Message}
-use Rattle.layout.specs.Format.{row}
+use Rattle.layout.specs.Format.{row, inOrder}
+use Rattle.layout.proofs.EachKind.{mark-two, mark-bytes}
 use Rattle.table.specs.declared.Table.{Table}
-use Rattle.table.specs.Encode.{fieldBytes, encodeRecord, recordsTo, encode}
+use Rattle.table.specs.Encode.{fieldBytes, encodeRecord, joinTo, encode}
 
 data Small : List ℕ → Type 0 where
   none : Small []
@@ -25,12 +25,7 @@ both none q = q
 both (more l p) q = more l (both p q)
 
 mark-small : (k : Kind) → Small (row k .mark)
-mark-small Network = more (lit< tt) (more (lit< tt) none)
-mark-small Processor = more (lit< tt) (more (lit< tt) none)
-mark-small Task = more (lit< tt) (more (lit< tt) none)
-mark-small CoResident = more (lit< tt) (more (lit< tt) none)
-mark-small Exclusive = more (lit< tt) (more (lit< tt) none)
-mark-small Message = more (lit< tt) (more (lit< tt) none)
+mark-small k = rw (mark-two k) (more (mark-bytes k .0) (more (mark-bytes k .1) none))
 
 number-small : (w v : ℕ) → Small (bytes w v)
 unfolding bytes
@@ -47,19 +42,11 @@ record-small : (k : Kind) (vs : List ℕ) → Small (encodeRecord k vs)
 unfolding encodeRecord
 record-small k vs = both (mark-small k) (fields-small (row k .widths) vs)
 
-records-small : (n : ℕ) (k : Kind) (f : ℕ → List ℕ) → Small (recordsTo n k f)
-unfolding recordsTo
-records-small zero k f = none
-records-small (suc n) k f = both (records-small n k f) (record-small k (f n))
+join-small : (n : ℕ) (f : ℕ → List ℕ) → ((j : ℕ) → Small (f j)) → Small (joinTo n f)
+unfolding joinTo
+join-small zero f h = none
+join-small (suc n) f h = both (join-small n f h) (h n)
 
 pub encode-bytes : (t : Table) → Bytes (encode t)
 unfolding encode
-encode-bytes t =
-    small-bytes
-    (both
-    (both
-    (both
-    (both (both (record-small Network _) (records-small _ Processor _)) (records-small _ Task _))
-    (records-small _ CoResident _))
-    (records-small _ Exclusive _))
-    (records-small _ Message _))
+encode-bytes t = small-bytes (join-small _ _ (λ i. join-small _ _ (λ j. record-small (inOrder i) _)))

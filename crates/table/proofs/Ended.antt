@@ -8,13 +8,14 @@ use native.Mathlib.Omega.{arith}
 use borrow.Author.Tests.{ltb-false, eqb-false}
 use lib.Dec.{ltb, eqb}
 use lib.ListN.{length}
-use Rattle.layout.specs.declared.Kind.the-variants.{Network, Processor, Task, CoResident, Exclusive, Message}
+use Rattle.layout.specs.declared.Kind.the-variants.{Network, Processor, Task}
 use Rattle.verdict.specs.declared.Cause.{Cause}
 use Rattle.verdict.specs.declared.Cause.the-variants.{Missing}
 use Rattle.verdict.specs.declared.Verdict.{Verdict}
 use Rattle.verdict.specs.declared.Verdict.the-variants as verdicts
 use Rattle.layout.specs.declared.Progress.{Progress}
-use Rattle.layout.specs.Format.{count, size}
+use Rattle.layout.specs.Format.{count, size, longest}
+use Rattle.layout.proofs.Places.{end-most}
 use Rattle.verdict.specs.Faults.{verdict}
 use Rattle.verdict.specs.Reached.{Reached}
 use Rattle.verdict.proofs.Taken.{accepted}
@@ -99,25 +100,11 @@ read-whole s e = go (scanOf s) refl (scan-ended s) e
     go r p (whole {x = x} f m) q = record { progress = x; fine = f; complete = m; table = ap (λ (z : Scanned). readingBy (z .outcome) s (z .progress) .table) p }
     go r p (refused f) q = absurd (let z : _≡_ {A = ℕ} 0 1 = cc in omega arith)
 
--- the format's limits: 6 + 8 · 8 + 22 · 24 + 6 · 16 + 6 · 16 + 8 · 64 bytes
-reached-most : {s : List ℕ} {at : ℕ} {x : Progress} → Reached s at x → at ≤ 1302
-reached-most r =
-    omega (
-      arith,
-      r .ends,
-      r .counted .few Network,
-      r .counted .few Processor,
-      r .counted .few Task,
-      r .counted .few CoResident,
-      r .counted .few Exclusive,
-      r .counted .few Message,
-    )
-
--- a refusal's place lies behind records that a file may have, so within 1,302 bytes
-pub refused-place : (s : List ℕ) (cause : Cause) (at : ℕ) → readOf s .outcome ≡ Refused cause at → at ≤ 1302
+-- a refusal's place lies behind records that a file may have, so within the longest file
+pub refused-place : (s : List ℕ) (cause : Cause) (at : ℕ) → readOf s .outcome ≡ Refused cause at → at ≤ longest
 unfolding readOf
 refused-place s cause at e = go (scanOf s) (scan-ended s) e
   where
-    go : (r : Scanned) → Ended s r → readingBy (r .outcome) s (r .progress) .outcome ≡ Refused cause at → at ≤ 1302
+    go : (r : Scanned) → Ended s r → readingBy (r .outcome) s (r .progress) .outcome ≡ Refused cause at → at ≤ longest
     go r (whole f m) p = absurd (let z : _≡_ {A = ℕ} 0 1 = cc in omega arith)
-    go r (refused {at = b} q) p = let here : b ≡ at = cc in omega (arith, reached-most q)
+    go r (refused {at = b} {x = x} q) p = let here : b ≡ at = cc in omega (arith, q .ends, end-most x (q .counted))

@@ -1,20 +1,13 @@
 -- An array filled from the left: the loop's invariant and its laws. Assumes nothing.
-use mathlib.Core.Path.{_≡_, refl, sym, _∙_}
+use mathlib.Core.Path.{_≡_, sym, _∙_}
 use mathlib.Core.List.{List}
-use Prim.Native.Nat.{ℕ, _+_, _*_, _≤_, _<_}
-use native.Mathlib.Nat.{mul-add, mul-one, mul-le-mul-left}
+use Prim.Native.Nat.{ℕ, _+_, _≤_, _<_}
 use native.Mathlib.Omega.{arith}
 use borrow.Author.Count.{below-none, below-more}
 use lib.Dec.{ltb}
 use lib.ListN.{length, getD, set, length-set}
 use lib.Seq.{getD-set-same, getD-set-other, ext-getD}
 use Rattle.finite.specs.Finite.{only}
-use Rattle.layout.specs.declared.Kind.{Kind}
-use Rattle.layout.specs.declared.Kind.the-variants.{Network, Processor, Task, CoResident, Exclusive, Message}
-use Rattle.layout.specs.declared.Progress.{Progress}
-use Rattle.layout.specs.Format.{size, start, count, place}
-use Rattle.layout.proofs.Limits.{size-small, start-small, record-small}
-use Rattle.verdict.specs.Reached.{Reached}
 use Rattle.table.specs.Table.{column}
 use Rattle.table.proofs.Columns.{column-at, column-length}
 
@@ -40,23 +33,3 @@ module _ {places n : ℕ} {f : ℕ → ℕ} {j : ℕ} {out : List ℕ} (w : Fill
   pub fill-end : places ≤ j → out ≡ column places n f
   fill-end l = ext-getD 0 out (column places n f) (w .long ∙ sym (column-length places n f))
       (λ k m. w .done k (omega (arith, w .long)) ∙ sym (column-at places n f k (omega (arith, w .long))))
-
--- record j of a kind lies within a file that was scanned to its end
-pub record-in : {s : List ℕ} {x : Progress} → Reached s (length s) x → (k : Kind) (j : ℕ) → j < count x k → place x k j + size k ≤ length s
-record-in {s} {x} r k j l =
-    let up : size k * (j + 1) ≤ size k * count x k = mul-le-mul-left (size k) (omega arith) in
-    omega (arith, within k, mul-add (size k) j 1, mul-one (size k))
-  where
-    within : (i : Kind) → start x i + size i * count x i ≤ length s
-    within Network = omega (arith, r .ends)
-    within Processor = omega (arith, r .ends)
-    within Task = omega (arith, r .ends)
-    within CoResident = omega (arith, r .ends)
-    within Exclusive = omega (arith, r .ends)
-    within Message = omega (arith, r .ends)
-
--- and it lies low
-pub record-low : {s : List ℕ} {x : Progress} → Reached s (length s) x → (k : Kind) (j : ℕ) → j < count x k → place x k j + size k ≤ 2732
-record-low {s} {x} r k j l =
-    let m : size k * j ≤ 22 * 64 = record-small k refl (omega (arith, r .counted .few k)) in
-    omega (arith, start-small x (r .counted) k, size-small k)

@@ -3,22 +3,25 @@
 use mathlib.Core.Path.{_≡_, refl, sym, ap, ap₂, subst, _∙_}
 use mathlib.Core.Logic.{_≢_}
 use mathlib.Core.List.{List}
-use Prim.Native.Nat.{ℕ, suc, _+_, _*_, _≤_, _<_}
+use Prim.Native.Nat.{ℕ, suc, _+_, _≤_, _<_}
 use native.Mathlib.Nat.{le-of-suc-le-suc, lt-of-not-le}
 use native.Mathlib.Numerals.{add-one}
 use native.Mathlib.Omega.{arith}
 use native.Mathlib.Decide.{ℕ-discrete}
+use borrow.Author.Tests.{ne-eqb}
 use Rattle.multiple.specs.Multiple.{lcm, lcmTo}
 use Rattle.multiple.proofs.Laws.{lcmTo-ext}
 use Rattle.layout.specs.declared.Kind.{Kind}
-use Rattle.layout.specs.declared.Kind.the-variants.{Network, Processor, Task, CoResident, Exclusive, Message}
+use Rattle.layout.specs.declared.Kind.the-variants.{Task}
 use Rattle.layout.specs.declared.Progress.{Progress}
 use Rattle.layout.specs.Format.{row, size, count, place, period}
+use Rattle.layout.proofs.EachKind.{Versus, same, other, versus, next-above}
+use Rattle.layout.proofs.Places.{place-agree, place-last}
 use Rattle.verdict.specs.Faults.{hyperperiodWith}
 use Rattle.verdict.specs.Reached.{Reached}
 use Rattle.verdict.proofs.Accepted.{Accepted}
 use Rattle.table.specs.Scan.{noRecords, withRecord}
-use Rattle.table.proofs.Progress.{Versus, same, other, versus, no-records, count-same, count-other, start-agree, place-last, reached-start, reached-next}
+use Rattle.table.proofs.Progress.{no-records, count-same, count-other, reached-start, reached-next}
 
 -- record j of a kind was accepted at its place, after j records of its kind and all those of the kinds before
 pub record Stands (s : List ℕ) (x : Progress) (k : Kind) (j : ℕ) : Type 0 where
@@ -43,14 +46,6 @@ fine-start s = record {
   hyperperiod = refl;
 }
 
-next-ge : (k : Kind) → row k .order ≤ row k .next
-next-ge Network = omega arith
-next-ge Processor = omega arith
-next-ge Task = omega arith
-next-ge CoResident = omega arith
-next-ge Exclusive = omega arith
-next-ge Message = omega arith
-
 module _ {s : List ℕ} {at : ℕ} {x : Progress} {k : Kind} (f : Fine s at x) (a : Accepted s at x k) where
   -- the records with the accepted one
   y : Progress
@@ -66,7 +61,7 @@ module _ {s : List ℕ} {at : ℕ} {x : Progress} {k : Kind} (f : Fine s at x) (
 
   -- the kinds up to k stay where they are
   place-y : (i : Kind) → row i .order ≤ row k .order → (j : ℕ) → place y i j ≡ place x i j
-  place-y i l j = ap (λ (n : ℕ). n + size i * j) (start-agree y x i (λ e m. count-y e (omega arith)))
+  place-y i l = place-agree y x i (λ e m. count-y e (omega arith))
 
   stays : (i : Kind) (j : ℕ) → row i .order ≤ row k .order → Stands s x i j → Stands s y i j
   stays i j l r = record {
@@ -115,23 +110,24 @@ module _ {s : List ℕ} {at : ℕ} {x : Progress} {k : Kind} (f : Fine s at x) (
   other-hyperperiod : row Task .order ≢ row k .order → x .hyperperiod ≡ lcmTo (count y Task) (λ j. period s (place y Task j))
   other-hyperperiod d = sym periods ∙ ap (λ (n : ℕ). lcmTo n (λ j. period s (place y Task j))) (sym (count-y Task d))
 
-hyperperiod-next : {s : List ℕ} {at : ℕ} {x : Progress} (k : Kind) (f : Fine s at x) (a : Accepted s at x k)
-    → hyperperiodWith s at x k ≡ lcmTo (count (y f a) Task) (λ j. period s (place (y f a) Task j))
+task-hyperperiod : {s : List ℕ} {at : ℕ} {x : Progress} (f : Fine s at x) (a : Accepted s at x Task)
+    → hyperperiodWith s at x Task ≡ lcmTo (count (y f a) Task) (λ j. period s (place (y f a) Task j))
 unfolding lcmTo
-hyperperiod-next Network f a = other-hyperperiod f a (omega arith)
-hyperperiod-next Processor f a = other-hyperperiod f a (omega arith)
-hyperperiod-next {s} {at} {x} Task f a =
+task-hyperperiod {s} f a =
     ap₂ lcm (sym (periods f a)) (ap (period s) (at-place f a))
     ∙ ap (λ (n : ℕ). lcmTo n (λ j. period s (place (y f a) Task j))) (sym (count-k f a))
-hyperperiod-next CoResident f a = other-hyperperiod f a (omega arith)
-hyperperiod-next Exclusive f a = other-hyperperiod f a (omega arith)
-hyperperiod-next Message f a = other-hyperperiod f a (omega arith)
+
+hyperperiod-next : {s : List ℕ} {at : ℕ} {x : Progress} (k : Kind) (f : Fine s at x) (a : Accepted s at x k) → Versus Task k
+    → hyperperiodWith s at x k ≡ lcmTo (count (y f a) Task) (λ j. period s (place (y f a) Task j))
+hyperperiod-next {s} {at} {x} k f a (same e) =
+    subst (λ (i : Kind). (b : Accepted s at x i) → hyperperiodWith s at x i ≡ lcmTo (count (y f b) Task) (λ j. period s (place (y f b) Task j))) e (task-hyperperiod f) a
+hyperperiod-next k f a (other d) = rw (ne-eqb (row k .order) (row Task .order) (λ e. d (sym e))) (other-hyperperiod f a d)
 
 pub fine-next : {s : List ℕ} {at : ℕ} {x : Progress} {k : Kind} → Fine s at x → Accepted s at x k → Fine s (at + size k) (withRecord x k (hyperperiodWith s at x k))
 unfolding y
 fine-next {x = x} {k = k} f a = record {
   reached = reached-next (f .reached) a;
-  later = λ i l. count-y f a i (omega (arith, next-ge k)) ∙ none-later f a i (omega (arith, next-ge k));
+  later = λ i l. count-y f a i (omega (arith, next-above k)) ∙ none-later f a i (omega (arith, next-above k));
   stands = all-stand f a;
-  hyperperiod = hyperperiod-next k f a;
+  hyperperiod = hyperperiod-next k f a (versus Task k);
 }

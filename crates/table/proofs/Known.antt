@@ -2,21 +2,21 @@
 use mathlib.Core.Path.{_≡_, sym, ap, _∙_}
 use mathlib.Core.Logic.{_≢_}
 use mathlib.Core.List.{List}
-use Prim.Native.Nat.{ℕ, _+_, _*_, _^_, _≤_, _<_}
+use Prim.Native.Nat.{ℕ, _^_, _≤_, _<_}
 use native.Mathlib.Omega.{arith}
 use Rattle.mask.specs.Mask as mask
 use Rattle.layout.specs.declared.Kind.{Kind}
 use Rattle.layout.specs.declared.Kind.the-variants.{Processor, Task, Message}
 use Rattle.layout.specs.declared.Progress.{Progress}
-use Rattle.layout.specs.Format.{row, size, field, limit, executionTime, period, deadline, priority, residence, sender, receiver, amount, count, place}
+use Rattle.layout.specs.Format.{row, field, limit, executionTime, period, deadline, priority, residence, sender, receiver, amount, count, place}
+use Rattle.layout.proofs.Places.{place-agree}
 use Rattle.verdict.specs.Faults.{notInFile, badGroup}
 use Rattle.verdict.proofs.Passed as passed
-use Rattle.table.proofs.Progress.{start-agree}
 use Rattle.table.proofs.Fine.{Stands}
 
 -- a record of an earlier kind, or an earlier one of the kind, stood where it stands now
 before-place : {s : List ℕ} {x : Progress} {k : Kind} {j : ℕ} (r : Stands s x k j) (c : Kind) → row c .order ≤ row k .order → (i : ℕ) → place (r .before) c i ≡ place x c i
-before-place {x = x} r c l i = ap (λ (n : ℕ). n + size c * i) (start-agree (r .before) x c (λ e m. r .agree e (omega arith)))
+before-place {x = x} r c l = place-agree (r .before) x c (λ e m. r .agree e (omega arith))
 
 module _ {s : List ℕ} {x : Progress} where
   pub limit-known : {j : ℕ} → Stands s x Processor j → (1 ≤ limit s (place x Processor j)) × (limit s (place x Processor j) ≤ 1000)

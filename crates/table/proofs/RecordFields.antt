@@ -8,8 +8,8 @@ use lib.ListN.{length, getD, length-append}
 use Rattle.wire.specs.Wire.{bytes, markAt}
 use Rattle.wire.proofs.Laws.{bytes-length, number-at, mark-stands}
 use Rattle.layout.specs.declared.Kind.{Kind}
-use Rattle.layout.specs.declared.Kind.the-variants.{Network, Processor, Task, CoResident, Exclusive, Message}
 use Rattle.layout.specs.Format.{row, size, totalWidth, fieldsFrom, field}
+use Rattle.layout.proofs.EachKind.{mark-two}
 use Rattle.table.specs.Encode.{fieldBytes, encodeRecord}
 
 -- as many values as widths, each of its width
@@ -33,18 +33,9 @@ fields-read (more {w} {v} {ws} {vs} h f) p q o at e =
     (ap (λ (s : List ℕ). fieldsFrom ws (o + w) s at) (sym (append-assoc p (bytes w v) rest))
     ∙ fields-read f (p ++ bytes w v) q (o + w) at (omega (arith, length-append p (bytes w v), bytes-length w v))))
 
--- a mark is two bytes
-mark-two : (k : Kind) → (a b : ℕ) × (row k .mark ≡ a ∷ b ∷ [])
-mark-two Network = (_, _, refl)
-mark-two Processor = (_, _, refl)
-mark-two Task = (_, _, refl)
-mark-two CoResident = (_, _, refl)
-mark-two Exclusive = (_, _, refl)
-mark-two Message = (_, _, refl)
-
 pub record-length : (k : Kind) {vs : List ℕ} → Fit (row k .widths) vs → length (encodeRecord k vs) ≡ size k
 unfolding encodeRecord
-record-length k {vs} f = rw (mark-two k .2) (omega (arith, fields-length f))
+record-length k {vs} f = rw (mark-two k) (omega (arith, fields-length f))
 
 -- the record of a kind with the values vs stands at a place
 pub record Stands (s : List ℕ) (at : ℕ) (k : Kind) (vs : List ℕ) : Type 0 where
@@ -56,7 +47,7 @@ pub record Stands (s : List ℕ) (at : ℕ) (k : Kind) (vs : List ℕ) : Type 0 
 module _ {s : List ℕ} {at : ℕ} {k : Kind} {vs : List ℕ} (r : Stands s at k vs) where
   pub stands-mark : markAt s at (row k .mark) ≡ true
   unfolding encodeRecord
-  stands-mark = rw (r .splits, ← r .long, mark-two k .2) (mark-stands (r .before) (fieldBytes (row k .widths) vs ++ r .behind) (mark-two k .0) (mark-two k .1))
+  stands-mark = rw (r .splits, ← r .long, mark-two k) (mark-stands (r .before) (fieldBytes (row k .widths) vs ++ r .behind) _ _)
 
   pub stands-whole : Fit (row k .widths) vs → at + size k ≤ length s
   stands-whole f = rw (r .splits) (omega (arith, r .long, length-append (r .before) (encodeRecord k vs ++ r .behind), length-append (encodeRecord k vs) (r .behind), record-length k f))
@@ -66,5 +57,5 @@ module _ {s : List ℕ} {at : ℕ} {k : Kind} {vs : List ℕ} (r : Stands s at k
   stands-field f i =
       let m = row k .mark in
       let e : s ≡ r .before ++ m ++ (fieldBytes (row k .widths) vs ++ r .behind) = r .splits ∙ simp append-assoc in
-      let l : length (r .before ++ m) ≡ at + 2 = omega (arith, length-append (r .before) m, ap length (mark-two k .2), r .long) in
+      let l : length (r .before ++ m) ≡ at + 2 = omega (arith, length-append (r .before) m, ap length (mark-two k), r .long) in
       ap (λ (l : List ℕ). getD l i 0) (ap (λ (l : List ℕ). fieldsFrom (row k .widths) 2 l at) e ∙ fields-read f (r .before ++ m) (r .behind) 2 at l)

@@ -2,17 +2,17 @@
 use mathlib.Core.Path.{_≡_, refl, sym, ap, ap₂, _∙_}
 use mathlib.Core.Bool.{true}
 use mathlib.Core.List.{List, [], _∷_, _++_}
-use Prim.Native.Nat.{ℕ, zero, suc, _+_, _*_, _≤_, _<_}
-use native.Mathlib.Nat.{add-assoc, mul-zero, mul-suc}
+use Prim.Native.Nat.{ℕ, _+_, _≤_}
+use native.Mathlib.Nat.{add-assoc}
 use native.Mathlib.Omega.{arith}
 use lib.ListN.{length, take, drop}
 use lib.Seq.{take-add, drop-drop}
 use Rattle.wire.specs.Wire.{Bytes, markAt}
 use Rattle.wire.proofs.Laws.{bytes-number, mark-found}
 use Rattle.layout.specs.declared.Kind.{Kind}
-use Rattle.layout.specs.declared.Kind.the-variants.{Network, Processor, Task, CoResident, Exclusive, Message}
 use Rattle.layout.specs.Format.{row, totalWidth, size, fieldsFrom}
-use Rattle.table.specs.Encode.{fieldBytes, encodeRecord, recordsTo}
+use Rattle.layout.proofs.EachKind.{mark-two}
+use Rattle.table.specs.Encode.{fieldBytes, encodeRecord}
 
 -- two parts of a list, one behind the other; and of a file from a place on
 pub joined : (l : List ℕ) (n m : ℕ) {p q : List ℕ} → p ≡ take n l → q ≡ take m (drop n l) → p ++ q ≡ take (n + m) l
@@ -30,22 +30,10 @@ fields-read (w ∷ ws) o s at b l =
 
 -- its mark
 mark-read : (k : Kind) (s : List ℕ) (at : ℕ) → markAt s at (row k .mark) ≡ true → at + 2 ≤ length s → take 2 (drop at s) ≡ row k .mark
-mark-read Network s at = mark-found s at _ _
-mark-read Processor s at = mark-found s at _ _
-mark-read Task s at = mark-found s at _ _
-mark-read CoResident s at = mark-found s at _ _
-mark-read Exclusive s at = mark-found s at _ _
-mark-read Message s at = mark-found s at _ _
+mark-read k s at m l = rw (mark-two k) (mark-found s at _ _ (rw (mark-two k) at m) l)
 
 -- the whole record
 pub record-read : (k : Kind) (s : List ℕ) (at : ℕ) → Bytes s → markAt s at (row k .mark) ≡ true → at + size k ≤ length s
     → encodeRecord k (fieldsFrom (row k .widths) 2 s at) ≡ take (size k) (drop at s)
 unfolding encodeRecord
 record-read k s at b m l = joined-at s at 2 (totalWidth (row k .widths)) (sym (mark-read k s at m (omega arith))) (fields-read (row k .widths) 2 s at b (omega arith))
-
--- n records from a place on
-pub records-read : (n : ℕ) (k : Kind) (f : ℕ → List ℕ) (s : List ℕ) (first : ℕ) → ((j : ℕ) → j < n → encodeRecord k (f j) ≡ take (size k) (drop (first + size k * j) s))
-    → recordsTo n k f ≡ take (size k * n) (drop first s)
-unfolding recordsTo
-records-read zero k f s first r = rw (mul-zero (size k)) refl
-records-read (suc n) k f s first r = rw (mul-suc (size k) n) (joined-at s first (size k * n) (size k) (records-read n k f s first (λ j l. r j (omega arith))) (r n (omega arith)))

@@ -15,6 +15,7 @@ use Rattle.multiple.proofs.Laws.{lcmTo-mono}
 use Rattle.layout.specs.declared.Kind.{Kind}
 use Rattle.layout.specs.declared.Kind.the-variants.{Network, Processor, Task, CoResident, Exclusive, Message}
 use Rattle.layout.specs.Format.{row, count, place}
+use Rattle.layout.proofs.EachKind.{each}
 use Rattle.verdict.specs.Faults.{inRange, outOfRange, notInFile, badResidence, badGroup, badPair, priorityUsed, periodsDiffer, messageRepeated, hyperperiodTooLarge}
 use Rattle.verdict.proofs.Accepted.{Accepted}
 use Rattle.verdict.proofs.Taking.{mark-kind}
@@ -23,7 +24,7 @@ use Rattle.table.specs.Encode.{encode}
 use Rattle.table.specs.Sound.{Sound}
 use Rattle.table.proofs.RecordFields.{stands-mark, stands-whole}
 use Rattle.table.proofs.EncodedRecords.{whole, values-fit, record-stands, field-at}
-use Rattle.table.proofs.Stage.{progressAt, period}
+use Rattle.table.proofs.Stage.{progressAt, period, count-here, count-before, place-at}
 
 -- ---- the tests, of numbers in their ranges
 
@@ -68,9 +69,10 @@ module _ {t : Table} (h : Sound t) where
 
   priority-new : (j n : ℕ) → j < t .tasks .count → priorityUsed (encode t) (place (whole t) Task j) (progressAt t Task j n) Task ≡ false
   unfolding priorityUsed
-  priority-new j n l = some-false j _ (λ i q.
-      let p : i < t .tasks .count = omega arith in
-      rw (field-at h Task i p 4, field-at h Task j l 4) (ne-eqb (getD (t .tasks .priority) i 0) (getD (t .tasks .priority) j 0) (λ e. omega (arith, h .tasks .distinct i j p l e))))
+  priority-new j n l = some-false (count (progressAt t Task j n) Task) _ (λ i q.
+      let p : i < t .tasks .count = omega (arith, count-here t Task j n) in
+      rw (place-at t Task j n Task (omega arith) i, field-at h Task i p 4, field-at h Task j l 4)
+      (ne-eqb (getD (t .tasks .priority) i 0) (getD (t .tasks .priority) j 0) (λ e. omega (arith, count-here t Task j n, h .tasks .distinct i j p l e))))
 
   multiple-most : (j : ℕ) → j < t .tasks .count → lcmTo (suc j) (period t) ≤ 1000000000
   multiple-most j l =
@@ -84,7 +86,7 @@ module _ {t : Table} (h : Sound t) where
 
   multiple-small : (j n : ℕ) → j < t .tasks .count → hyperperiodTooLarge (encode t) (place (whole t) Task j) (progressAt t Task j n) Task ≡ false
   unfolding hyperperiodTooLarge lcmTo
-  multiple-small j n l = rw (field-at h Task j l 1) (le-ltb 1000000000 (lcmTo (suc j) (period t)) (multiple-most j l))
+  multiple-small j n l = rw (count-here t Task j n, field-at h Task j l 1) (le-ltb 1000000000 (lcmTo (suc j) (period t)) (multiple-most j l))
 
   -- ---- of a message
 
@@ -95,6 +97,8 @@ module _ {t : Table} (h : Sound t) where
       rw (
         field-at h Message j l 0,
         field-at h Message j l 1,
+        place-at t Message j n Task (omega arith) (getD (t .messages .sender) j 0),
+        place-at t Message j n Task (omega arith) (getD (t .messages .receiver) j 0),
         field-at h Task _ (m .from-task j l) 1,
         field-at h Task _ (m .to-task j l) 1,
         eq-eqb _ _ (m .periods j l),
@@ -102,38 +106,49 @@ module _ {t : Table} (h : Sound t) where
 
   message-new : (j n : ℕ) → j < t .messages .count → messageRepeated (encode t) (place (whole t) Message j) (progressAt t Message j n) Message ≡ false
   unfolding messageRepeated
-  message-new j n l = some-false j _ (λ i q.
-      let p : i < t .messages .count = omega arith in
+  message-new j n l = some-false (count (progressAt t Message j n) Message) _ (λ i q.
+      let p : i < t .messages .count = omega (arith, count-here t Message j n) in
       let from = t .messages .sender in
       let to = t .messages .receiver in
-      rw (field-at h Message i p 0, field-at h Message j l 0, field-at h Message i p 1, field-at h Message j l 1)
-      (pair-new (getD from i 0) (getD from j 0) (getD to i 0) (getD to j 0) (λ a b. omega (arith, h .messages .distinct i j p l a b))))
+      rw (place-at t Message j n Message (omega arith) i, field-at h Message i p 0, field-at h Message j l 0, field-at h Message i p 1, field-at h Message j l 1)
+      (pair-new (getD from i 0) (getD from j 0) (getD to i 0) (getD to j 0) (λ a b. omega (arith, count-here t Message j n, h .messages .distinct i j p l a b))))
 
   -- ---- of a kind: room for it, and causes 5 to 10
 
+  few : (k : Kind) → count (whole t) k ≤ row k .most
+  few = each (λ k. count (whole t) k ≤ row k .most) (omega (arith, h .processors .most, h .tasks .most, h .co .most, h .ex .most, h .messages .most))
+
   contents : (k : Kind) (j n : ℕ) → j < count (whole t) k → let s = encode t in let at = place (whole t) k j in let x = progressAt t k j n in
-      (count x k < row k .most)
-      × (outOfRange s at k ≡ false)
+      (outOfRange s at k ≡ false)
       × (notInFile s at x k ≡ false)
       × (priorityUsed s at x k ≡ false)
       × (periodsDiffer s at x k ≡ false)
       × (messageRepeated s at x k ≡ false)
       × (hyperperiodTooLarge s at x k ≡ false)
   unfolding outOfRange notInFile priorityUsed periodsDiffer messageRepeated hyperperiodTooLarge
-  contents Network j n l = (l, refl, refl, refl, refl, refl, refl)
+  contents Network j n l = (refl, refl, refl, refl, refl, refl)
   contents Processor j n l =
       let p = h .processors in
-      (omega (arith, p .most), rw (field-at h Processor j l 1, in-range-true 1 1000 _ (p .least-limit j l) (p .most-limit j l)), refl, refl, refl, refl, refl)
+      (rw (field-at h Processor j l 1, in-range-true 1 1000 _ (p .least-limit j l) (p .most-limit j l)), refl, refl, refl, refl, refl)
   contents Task j n l =
-      let a = h .tasks in
-      (omega (arith, a .most), task-range j l, rw (field-at h Task j l 5) (residence-good _ _ (a .resides j l) (a .resides-below j l)), priority-new j n l, refl, refl, multiple-small j n l)
-  contents CoResident j n l = let g = h .co in (omega (arith, g .most), refl, rw (field-at h CoResident j l 0) (group-good _ _ (g .below j l) (g .two j l)), refl, refl, refl, refl)
-  contents Exclusive j n l = let g = h .ex in (omega (arith, g .most), refl, rw (field-at h Exclusive j l 0) (group-good _ _ (g .below j l) (g .two j l)), refl, refl, refl, refl)
+      let a = h .tasks in (
+        task-range j l,
+        rw (count-before t Task j n Processor (omega arith), field-at h Task j l 5) (residence-good _ _ (a .resides j l) (a .resides-below j l)),
+        priority-new j n l,
+        refl,
+        refl,
+        multiple-small j n l,
+      )
+  contents CoResident j n l =
+      let g = h .co in
+      (refl, rw (count-before t CoResident j n Task (omega arith), field-at h CoResident j l 0) (group-good _ _ (g .below j l) (g .two j l)), refl, refl, refl, refl)
+  contents Exclusive j n l =
+      let g = h .ex in
+      (refl, rw (count-before t Exclusive j n Task (omega arith), field-at h Exclusive j l 0) (group-good _ _ (g .below j l) (g .two j l)), refl, refl, refl, refl)
   contents Message j n l =
       let m = h .messages in (
-        omega (arith, m .most),
         rw (field-at h Message j l 2, in-range-true 1 1000000 _ (m .least-amount j l) (m .most-amount j l)),
-        rw (field-at h Message j l 0, field-at h Message j l 1) (pair-good _ _ _ (m .from-task j l) (m .to-task j l) (m .apart j l)),
+        rw (count-before t Message j n Task (omega arith), field-at h Message j l 0, field-at h Message j l 1) (pair-good _ _ _ (m .from-task j l) (m .to-task j l) (m .apart j l)),
         refl,
         periods-equal j n l,
         message-new j n l,
@@ -148,11 +163,11 @@ module _ {t : Table} (h : Sound t) where
         marked = mark-kind (encode t) (place (whole t) k j) k (stands-mark r);
         whole = stands-whole r (values-fit h k j);
         in-order = o;
-        room = c .0;
-        in-range = c .1;
-        in-file = c .2;
-        priority-new = c .3;
-        periods-equal = c .4;
-        message-new = c .5;
-        hyperperiod-small = c .6;
+        room = omega (arith, count-here t k j n, few k);
+        in-range = c .0;
+        in-file = c .1;
+        priority-new = c .2;
+        periods-equal = c .3;
+        message-new = c .4;
+        hyperperiod-small = c .5;
       }

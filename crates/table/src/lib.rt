@@ -1,11 +1,11 @@
 // The table file: read whole, or refused with the first cause and its place.
 ghost use mathlib.Core.Path.{_≡_};
-ghost use Prim.Native.Nat.{_+_, _*_, _≤_, _<_};
+ghost use Prim.Native.Nat.{_+_, _≤_, _<_};
 ghost use lib.Dec.{ltb};
 ghost use lib.ListN.{length};
 ghost use Rattle.finite.specs.Finite.{only};
 ghost use Rattle.wire.specs.Wire.{number};
-ghost use Rattle.layout.specs.Format.{row, count, Counted};
+ghost use Rattle.layout.specs.Format.{row, size, count, Counted};
 ghost use Rattle.verdict.specs.Reached.{Reached};
 ghost use Rattle.table.specs.Scan.{noRecords, withRecord, refusedScan, atEnd, scanOf};
 ghost use Rattle.table.specs.Table.{column, widthOf, processorColumns, taskColumns, messageColumns, tableOf, emptyTable, readOf};
@@ -170,9 +170,7 @@ fn entry(file: &[u8], x: Progress, kind: Kind, offset: usize, width: Width, j: u
     requires { ⌜ FieldIn (now file) x kind offset width ⌝ }
     ensures { λ r. ⌜ r ≡ only (ltb j (count x kind)) (fieldAt (now (file .entry)) x kind offset width j) ⌝ }
 {
-    let shape = layout::shape_of(kind);
-    let order = shape.order;
-    if x.counts[order] <= j {
+    if layout::count_of(x, kind) <= j {
         return 0;
     }
     number_at(file, layout::place_of(x, kind, j) + offset, width)
@@ -239,9 +237,7 @@ fn groups_of(file: &[u8], x: Progress, kind: Kind) -> Groups
     requires { ⌜ FieldIn (now file) x kind 2 Width.Four ⌝ }
     ensures { λ r. ⌜ r ≡ groupMasks (now (file .entry)) x kind ⌝ }
 {
-    let shape = layout::shape_of(kind);
-    let order = shape.order;
-    let n = x.counts[order];
+    let n = layout::count_of(x, kind);
     let mut mask = [0u32; 16];
     fill(file, x, kind, 2, Width::Four, &mut mask);
     Groups { count: n, mask }
@@ -267,7 +263,7 @@ fn messages_of(file: &[u8], x: Progress) -> Messages
 }
 
 fn table_of(file: &[u8], x: Progress) -> Table
-    requires { ⌜ Reached (now file) (length (now file)) x × (6 ≤ length (now file)) ⌝ }
+    requires { ⌜ Reached (now file) (length (now file)) x × (size Kind.Network ≤ length (now file)) ⌝ }
     ensures { λ r. ⌜ r ≡ tableOf (now (file .entry)) x ⌝ }
 {
     let capacity = wire::word_at(file, 2);

@@ -10,6 +10,8 @@ use lib.ListN.{getD}
 use Rattle.finite.proofs.First.{First, first, found, missing}
 use Rattle.finite.proofs.Stored.{zeros}
 use Rattle.wire.specs.Wire.{Bytes}
+use Rattle.layout.specs.Format.{longest}
+use Rattle.layout.proofs.Places.{longest-is}
 use Rattle.verdict.specs.declared.Cause.{Cause}
 use Rattle.verdict.specs.declared.Cause.the-variants.{ShortAnswer}
 use Rattle.table.specs.declared.Outcome.{Outcome}
@@ -59,9 +61,9 @@ module _ {t : Table} (s : Sound t) where
   concerned-most Network = omega arith
   concerned-most Deadline = s .tasks .most
 
-  check-most : {on : ℕ → ℕ → Bool} {late : ℕ → Bool} {low : ℕ} {c : Check} → Finds t on late low c → concernedOf (judgementBy c) ≤ 1302
+  check-most : {on : ℕ → ℕ → Bool} {late : ℕ → Bool} {low : ℕ} {c : Check} → Finds t on late low c → concernedOf (judgementBy c) ≤ longest
   check-most (none f) = omega arith
-  check-most (one {r = r} w) = omega (arith, w .within, concerned-most r)
+  check-most (one {r = r} w) = omega (arith, w .within, concerned-most r, longest-is)
 
   responses-most : (q : List ℕ) (k : ℕ) → getD (responsesOf t q) k 0 ≤ 1000000
   unfolding responsesOf
@@ -76,27 +78,27 @@ module _ {t : Table} (s : Sound t) where
     where
       go : {j : Judged} → Judging t q j → Small j
       go (of-length d) = record { concerned = omega arith; responses = λ k. omega (arith, zeros 24 k) }
-      go (of-byte u) = record { concerned = omega (arith, u .inside, u .long, s .tasks .most); responses = λ i. omega (arith, zeros 24 i) }
+      go (of-byte u) = record { concerned = omega (arith, u .inside, u .long, s .tasks .most, longest-is); responses = λ i. omega (arith, zeros 24 i) }
       go (of-rules w) = record { concerned = check-most (first-broken t (placed q) (missed (responsesOf t q))); responses = responses-most q }
 
 -- ---- the place of a refusal
 
-pub answer-place : (file : List ℕ) → Bytes file → (q : List ℕ) (room : ℕ) (cause : Cause) (place : ℕ) → reportAnswer file q room ≡ Refused cause place → place ≤ 1302
+pub answer-place : (file : List ℕ) → Bytes file → (q : List ℕ) (room : ℕ) (cause : Cause) (place : ℕ) → reportAnswer file q room ≡ Refused cause place → place ≤ longest
 unfolding reportAnswer judgeOf
 answer-place file b q room cause place e = go (readOf file .outcome) refl e
   where
     n : ℕ
     n = readOf file .table .tasks .count
 
-    by-room : (short : Bool) → cond short (Refused ShortAnswer 0) (Written (n + 2)) ≡ Refused cause place → place ≤ 1302
+    by-room : (short : Bool) → cond short (Refused ShortAnswer 0) (Written (n + 2)) ≡ Refused cause place → place ≤ longest
     by-room true h = let z : 0 ≡ place = cc in omega arith
     by-room false h = absurd (let z : _≡_ {A = ℕ} 0 1 = cc in omega arith)
 
-    by : (j : Judgement) → concernedOf j ≤ 1302 → reportBy j n room ≡ Refused cause place → place ≤ 1302
+    by : (j : Judgement) → concernedOf j ≤ longest → reportBy j n room ≡ Refused cause place → place ≤ longest
     by (judgements.Refused c p) l h = let z : p ≡ place = cc in omega arith
     by judgements.Kept l h = by-room (ltb room (n + 2)) h
     by (judgements.Broken r k) l h = by-room (ltb room (n + 2)) h
 
-    go : (o : Outcome) → readOf file .outcome ≡ o → reportBy (judgedBy o (readOf file .table) q .judgement) n room ≡ Refused cause place → place ≤ 1302
+    go : (o : Outcome) → readOf file .outcome ≡ o → reportBy (judgedBy o (readOf file .table) q .judgement) n room ≡ Refused cause place → place ≤ longest
     go (outcomes.Refused c p) h a = by (judgements.Refused c p) (refused-place file c p h) a
     go outcomes.Readable h a = by (judgedOn (readOf file .table) q .judgement) (judged-small (read-sound file b h) q .concerned) a

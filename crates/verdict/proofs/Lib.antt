@@ -1,4 +1,5 @@
 pub mod Accepted
+pub mod Inside
 pub mod Passed
 pub mod Taken
 pub mod Taking

@@ -1,14 +1,13 @@
 -- What a verdict says of a record that is taken: it passed every test, and its mark stands at its place. Assumes nothing.
 use mathlib.Core.Path.{_≡_, refl, subst}
 use mathlib.Core.Bool.{Bool, true, false}
-use mathlib.Core.List.{List}
+use mathlib.Core.List.{List, [], _∷_}
 use Prim.Native.Nat.{ℕ, _+_}
 use native.Mathlib.Omega.{arith}
 use borrow.Author.Tests.{ltb-false, leb-false}
 use lib.ListN.{length}
 use Rattle.wire.specs.Wire.{markAt}
 use Rattle.layout.specs.declared.Kind.{Kind}
-use Rattle.layout.specs.declared.Kind.the-variants.{Network, Processor, Task, CoResident, Exclusive, Message}
 use Rattle.layout.specs.declared.Mark.{Mark}
 use Rattle.layout.specs.declared.Mark.the-variants.{Known, Unknown}
 use Rattle.verdict.specs.declared.Cause.{Cause}
@@ -17,7 +16,7 @@ use Rattle.verdict.specs.declared.Verdict.the-variants.{Taken}
 use Rattle.layout.specs.declared.Progress.{Progress}
 use Rattle.layout.specs.Format.{row, size, count}
 use Rattle.verdict.specs.Faults.{markCut, recordCut, outOfOrder, tooMany, outOfRange, notInFile, priorityUsed, periodsDiffer, messageRepeated, hyperperiodTooLarge, hyperperiodWith, refuse, contentVerdict, recordVerdict, markVerdict, verdict}
-use Rattle.layout.specs.Format.{firstMark, kindAt}
+use Rattle.layout.specs.Format.{kinds, firstMark, markedOf, kindAt}
 use Rattle.verdict.proofs.Accepted.{Accepted}
 
 -- a test that does not refuse
@@ -60,14 +59,12 @@ accepted s at x {k} {h} e = go (kindAt s at) refl (passed (markCut s at) _ _ e .
 -- a kind is read where its mark stands
 pub kind-marked : (s : List ℕ) (at : ℕ) {k : Kind} → kindAt s at ≡ Known k → markAt s at (row k .mark) ≡ true
 unfolding kindAt
-kind-marked s at {k} = first Network _ (first Processor _ (first Task _ (first CoResident _ (first Exclusive _ (first Message _ none)))))
+kind-marked s at {k} = of-list kinds
   where
-    none : Unknown ≡ Known k → markAt s at (row k .mark) ≡ true
-    none e = cc
+    first : (j : Kind) (m : Mark) (b : Bool) → markAt s at (row j .mark) ≡ b → (m ≡ Known k → markAt s at (row k .mark) ≡ true) → firstMark b j m ≡ Known k → markAt s at (row k .mark) ≡ true
+    first j m true p later e = cc
+    first j m false p later e = later e
 
-    first : (j : Kind) (m : Mark) → (m ≡ Known k → markAt s at (row k .mark) ≡ true) → firstMark (markAt s at (row j .mark)) j m ≡ Known k → markAt s at (row k .mark) ≡ true
-    first j m later = go (markAt s at (row j .mark)) refl
-      where
-        go : (b : Bool) → markAt s at (row j .mark) ≡ b → firstMark b j m ≡ Known k → markAt s at (row k .mark) ≡ true
-        go true p e = cc
-        go false p e = later e
+    of-list : (l : List Kind) → markedOf l s at ≡ Known k → markAt s at (row k .mark) ≡ true
+    of-list [] e = cc
+    of-list (j ∷ l) e = first j (markedOf l s at) (markAt s at (row j .mark)) refl (of-list l) e

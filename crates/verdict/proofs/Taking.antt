@@ -9,7 +9,6 @@ use lib.Dec.{eqb}
 use lib.ListN.{length, getD}
 use Rattle.wire.specs.Wire.{markAt}
 use Rattle.layout.specs.declared.Kind.{Kind}
-use Rattle.layout.specs.declared.Kind.the-variants.{Network, Processor, Task, CoResident, Exclusive, Message}
 use Rattle.layout.specs.declared.Mark.{Mark}
 use Rattle.layout.specs.declared.Mark.the-variants.{Known}
 use Rattle.verdict.specs.declared.Verdict.the-variants.{Taken}
@@ -17,6 +16,7 @@ use Rattle.layout.specs.declared.Progress.{Progress}
 use Rattle.layout.specs.Format.{row, size, count}
 use Rattle.verdict.specs.Faults.{markCut, recordCut, outOfOrder, tooMany, contentVerdict, recordVerdict, verdict, hyperperiodWith}
 use Rattle.layout.specs.Format.{kindAt}
+use Rattle.layout.proofs.EachKind.{each}
 use Rattle.verdict.proofs.Accepted.{Accepted}
 
 -- no test stands against it
@@ -56,12 +56,7 @@ mark-bytes s at m e = go (eqb (getD s at 0) (getD m 0 0)) (eqb-true (getD s at 0
 -- the first bytes of the six marks differ
 mark-of : (k : Kind) → kindOf (getD (row k .mark) 0 0) (getD (row k .mark) 1 0) ≡ Known k
 unfolding kindAt markAt
-mark-of Network = refl
-mark-of Processor = refl
-mark-of Task = refl
-mark-of CoResident = refl
-mark-of Exclusive = refl
-mark-of Message = refl
+mark-of = each (λ k. kindOf (getD (row k .mark) 0 0) (getD (row k .mark) 1 0) ≡ Known k) (search)
 
 pub mark-kind : (s : List ℕ) (at : ℕ) (k : Kind) → markAt s at (row k .mark) ≡ true → kindAt s at ≡ Known k
 mark-kind s at k e = let h = mark-bytes s at (row k .mark) e in kind-bytes s at ∙ ap₂ kindOf (h .0) (h .1) ∙ mark-of k

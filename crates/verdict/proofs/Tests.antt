@@ -14,8 +14,8 @@ use Rattle.wire.specs.Wire.{number, Bytes}
 use Rattle.wire.proofs.Laws.{number-add, number-lt}
 use Rattle.layout.specs.declared.Kind.the-variants.{Task, Message}
 use Rattle.layout.specs.declared.Progress.{Progress}
-use Rattle.layout.specs.Format.{period, sender, receiver, count, start}
-use Rattle.verdict.specs.Faults.{badGroup, priorityUsed, periodsDiffer, messageRepeated}
+use Rattle.layout.specs.Format.{period, sender, receiver, count, place}
+use Rattle.verdict.specs.Faults.{badGroup, periodsDiffer, messageRepeated}
 
 pub group-by : (n g : ℕ) {b : Bool} → b ≡ (below n g && leb 2 (cardinality 32 g)) → badGroup n g ≡ not b
 unfolding badGroup
@@ -25,16 +25,10 @@ group-by n g e = rw e (go (below n g) (leb 2 (cardinality 32 g)))
     go true b = refl
     go false b = refl
 
-module _ (s : List ℕ) (at : ℕ) (x : Progress) {first : ℕ} where
-  pub priority-by : {b : Bool} → first ≡ start x Task
-      → b ≡ someBelow (count x Task) (λ j. eqb (number s (first + 22 * j + 18) 2) (number s (at + 18) 2)) → priorityUsed s at x Task ≡ b
-  unfolding priorityUsed
-  priority-by e h = rw e at (sym h)
-
-  pub periods-by : {from to p q : ℕ} → first ≡ start x Task → from ≡ sender s at → to ≡ receiver s at
-      → p ≡ period s (first + 22 * from) → q ≡ period s (first + 22 * to) → periodsDiffer s at x Message ≡ not (eqb p q)
-  unfolding periodsDiffer
-  periods-by e f g h i = rw (h, i, e, f, g)
+pub periods-by : (s : List ℕ) (at : ℕ) (x : Progress) {from to p q : ℕ} → from ≡ sender s at → to ≡ receiver s at
+    → p ≡ period s (place x Task from) → q ≡ period s (place x Task to) → periodsDiffer s at x Message ≡ not (eqb p q)
+unfolding periodsDiffer
+periods-by s at x f g h i = rw (h, i, f, g)
 
 -- two messages have one pair if their two bytes of sender and receiver are one number
 same-pair : (a b c d : ℕ) → a < 256 → c < 256 → eqb (a + 256 * b) (c + 256 * d) ≡ (eqb a c && eqb b d)
@@ -48,8 +42,8 @@ same-pair a b c d l m = go (ℕ-discrete a c) (ℕ-discrete b d)
 pair-number : (s : List ℕ) (p : ℕ) → number s (p + 2) 2 ≡ sender s p + 256 * receiver s p
 pair-number s p = number-add s (p + 2) 1 1 ∙ ap (λ (z : ℕ). number s (p + 2) 1 + 256 * number s z 1) (omega arith)
 
-module _ (s : List ℕ) (at : ℕ) (x : Progress) (bytes : Bytes s) {first : ℕ} where
-  pub message-by : {b : Bool} → first ≡ start x Message
-      → b ≡ someBelow (count x Message) (λ j. eqb (number s (first + 8 * j + 2) 2) (number s (at + 2) 2)) → messageRepeated s at x Message ≡ b
-  unfolding messageRepeated
-  message-by e h = sym (h ∙ some-ext _ _ _ (λ j l. rw (e, pair-number s (start x Message + 8 * j), pair-number s at) (same-pair _ _ _ _ (number-lt s _ 1 bytes) (number-lt s _ 1 bytes))))
+pub message-by : (s : List ℕ) (at : ℕ) (x : Progress) → Bytes s → {b : Bool}
+    → b ≡ someBelow (count x Message) (λ j. eqb (number s (place x Message j + 2) 2) (number s (at + 2) 2)) → messageRepeated s at x Message ≡ b
+unfolding messageRepeated
+message-by s at x bytes h =
+    sym (h ∙ some-ext _ _ _ (λ j l. rw (pair-number s (place x Message j), pair-number s at) (same-pair _ _ _ _ (number-lt s _ 1 bytes) (number-lt s _ 1 bytes))))

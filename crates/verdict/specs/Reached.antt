@@ -1,7 +1,7 @@
 -- What is known between two records, and parts of the verdict that functions of their own give.
 use mathlib.Core.Path.{_≡_}
 use mathlib.Core.List.{List}
-use Prim.Native.Nat.{ℕ, _+_, _*_, _≤_}
+use Prim.Native.Nat.{ℕ, _+_, _≤_}
 use lib.ListN.{length}
 use Rattle.wire.specs.Wire.{number}
 use Rattle.layout.specs.declared.Kind.{Kind}
@@ -10,22 +10,14 @@ use Rattle.verdict.specs.declared.Cause.the-variants.{NotInFile, Periods
 use Rattle.verdict.specs.declared.Verdict.{Verdict}
 use Rattle.verdict.specs.declared.Verdict.the-variants.{Taken}
 use Rattle.layout.specs.declared.Progress.{Progress}
-use Rattle.layout.specs.Format.{count, start, extent, sender, receiver, Counted}
+use Rattle.layout.specs.Format.{count, end, sender, receiver, Counted}
 use Rattle.verdict.specs.Faults.{refuse, badGroup, badPair, periodsDiffer, messageRepeated}
-
--- n records of a size from `first` on, and one more at a place, lie within a file of `len` bytes, and two bytes at the offset within each
-pub record Standing (len at first size n offset : ℕ) : Type 0 where
-  pub few : n ≤ 64
-  pub short : size ≤ 22
-  pub holds : offset + 2 ≤ size
-  pub rows : first + size * n ≤ len
-  pub one : at + size ≤ len
 
 -- the records taken stand before the place, with nothing between them
 pub record Reached (s : List ℕ) (at : ℕ) (x : Progress) : Type 0 where
   pub counted : Counted x
   pub inside : at ≤ length s
-  pub ends : at ≡ start x Message + extent x Message
+  pub ends : at ≡ end x
   pub least : 1 ≤ x .hyperperiod
   pub most : x .hyperperiod ≤ 1000000000
 

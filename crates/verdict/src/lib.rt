@@ -1,13 +1,13 @@
 // One record of a table file: whether it can be taken after the records before it, or the first cause against it.
 ghost use mathlib.Core.Path.{_≡_};
-ghost use Prim.Native.Nat.{_+_, _*_, _≤_, _<_};
+ghost use Prim.Native.Nat.{_+_, _≤_, _<_};
 ghost use lib.Dec.{eqb};
 ghost use lib.ListN.{length};
 ghost use Rattle.finite.specs.Finite.{someBelow};
 ghost use Rattle.wire.specs.Wire.{number};
-ghost use Rattle.layout.specs.Format.{size, period};
+ghost use Rattle.layout.specs.Format.{size, period, count, place, end, Counted};
 ghost use Rattle.verdict.specs.Faults.{inRange, outOfRange, badResidence, badPair, contentVerdict, recordVerdict, verdict};
-ghost use Rattle.verdict.specs.Reached.{Standing, Reached, groupVerdict, pairVerdict};
+ghost use Rattle.verdict.specs.Reached.{Reached, groupVerdict, pairVerdict};
 use layout::Kind;
 use layout::Mark;
 use layout::Progress;
@@ -48,7 +48,7 @@ fn is_in_range(low: u32, high: u32, v: u32) -> bool
 
 // 1 ≤ C ≤ D ≤ T ≤ 1,000,000 does not hold of the task at a place.
 fn task_out_of_range(file: &[u8], at: usize) -> bool
-    requires { ⌜ at + 22 ≤ length (now file) ⌝ }
+    requires { ⌜ at + size Kind.Task ≤ length (now file) ⌝ }
     ensures { λ r. ⌜ r ≡ outOfRange (now (file .entry)) at Kind.Task ⌝ }
 {
     let c = wire::word_at(file, at + 2);
@@ -94,15 +94,17 @@ fn bad_pair(tasks: usize, from: u32, to: u32) -> bool
     from == to
 }
 
-// Whether one of the n records of `size` bytes from `first` on has the two bytes at `offset` that the record at a place has there.
-fn repeated(file: &[u8], at: usize, first: usize, size: usize, n: usize, offset: usize) -> bool
-    requires { ⌜ Standing (length (now file)) at first size n offset ⌝ }
-    ensures { λ r. ⌜ r ≡ someBelow n (λ j. eqb (number (now (file .entry)) (first + size * j + offset) 2) (number (now (file .entry)) (at + offset) 2)) ⌝ }
+// Whether one of the records of a kind has the two bytes at `offset` that the record at a place has there.
+fn repeated(file: &[u8], at: usize, x: Progress, kind: Kind, offset: usize) -> bool
+    requires { ⌜ Reached (now file) at x × (at + size kind ≤ length (now file)) × (offset + 2 ≤ size kind) ⌝ }
+    ensures { λ r. ⌜ r ≡ someBelow (count x kind) (λ j. eqb (number (now (file .entry)) (place x kind j + offset) 2) (number (now (file .entry)) (at + offset) 2)) ⌝ }
 {
     let sought = wire::half_at(file, at + offset);
+    let n = layout::count_of(x, kind);
+    let series = layout::series_of(x, kind);
     let mut j: usize = 0;
     while j < n {
-        if wire::half_at(file, first + size * j + offset) == sought {
+        if wire::half_at(file, layout::place_in(series, j) + offset) == sought {
             return true;
         }
         j += 1;
@@ -111,15 +113,15 @@ fn repeated(file: &[u8], at: usize, first: usize, size: usize, n: usize, offset:
 }
 
 // The period of task `j`.
-fn period_of(file: &[u8], first: usize, j: u32) -> u32
-    requires { ⌜ (j < 24) × (first + 22 * j + 22 ≤ length (now file)) ⌝ }
-    ensures { λ r. ⌜ r ≡ period (now (file .entry)) (first + 22 * j) ⌝ }
+fn period_of(file: &[u8], x: Progress, j: u32) -> u32
+    requires { ⌜ Counted x × (end x ≤ length (now file)) × (j < count x Kind.Task) ⌝ }
+    ensures { λ r. ⌜ r ≡ period (now (file .entry)) (place x Kind.Task j) ⌝ }
 {
-    wire::word_at(file, first + 22 * (j as usize) + 6)
+    wire::word_at(file, layout::place_of(x, Kind::Task, j as usize) + 6)
 }
 
 fn processor_verdict(file: &[u8], at: usize, x: Progress) -> Verdict
-    requires { ⌜ at + 8 ≤ length (now file) ⌝ }
+    requires { ⌜ at + size Kind.Processor ≤ length (now file) ⌝ }
     ensures { λ r. ⌜ r ≡ contentVerdict (now (file .entry)) at x Kind.Processor ⌝ }
 {
     if is_in_range(1, 1000, wire::half_at(file, at + 6)) {
@@ -130,7 +132,7 @@ fn processor_verdict(file: &[u8], at: usize, x: Progress) -> Verdict
 }
 
 fn task_verdict(file: &[u8], at: usize, x: Progress) -> Verdict
-    requires { ⌜ Reached (now file) at x × (at + 22 ≤ length (now file)) ⌝ }
+    requires { ⌜ Reached (now file) at x × (at + size Kind.Task ≤ length (now file)) ⌝ }
     ensures { λ r. ⌜ r ≡ contentVerdict (now (file .entry)) at x Kind.Task ⌝ }
 {
     if task_out_of_range(file, at) {
@@ -140,8 +142,7 @@ fn task_verdict(file: &[u8], at: usize, x: Progress) -> Verdict
     if bad_residence(processors, wire::half_at(file, at + 20)) {
         return Verdict::Refused(Cause::NotInFile);
     }
-    let first = layout::first_of(x, Kind::Task);
-    if repeated(file, at, first, 22, x.counts[2], 18) {
+    if repeated(file, at, x, Kind::Task, 18) {
         return Verdict::Refused(Cause::PriorityUsed);
     }
     let hyperperiod = multiple::least_common_multiple(x.hyperperiod, wire::word_at(file, at + 6));
@@ -163,7 +164,7 @@ fn group_verdict(file: &[u8], at: usize, x: Progress, kind: Kind) -> Verdict
 }
 
 fn message_verdict(file: &[u8], at: usize, x: Progress) -> Verdict
-    requires { ⌜ Reached (now file) at x × (at + 8 ≤ length (now file)) ⌝ }
+    requires { ⌜ Reached (now file) at x × (at + size Kind.Message ≤ length (now file)) ⌝ }
     ensures { λ r. ⌜ r ≡ contentVerdict (now (file .entry)) at x Kind.Message ⌝ }
 {
     if is_in_range(1, 1000000, wire::word_at(file, at + 4)) {
@@ -174,7 +175,7 @@ fn message_verdict(file: &[u8], at: usize, x: Progress) -> Verdict
 
 // The sender and the receiver of the message at a place.
 fn pair_verdict(file: &[u8], at: usize, x: Progress) -> Verdict
-    requires { ⌜ Reached (now file) at x × (at + 8 ≤ length (now file)) ⌝ }
+    requires { ⌜ Reached (now file) at x × (at + size Kind.Message ≤ length (now file)) ⌝ }
     ensures { λ r. ⌜ r ≡ pairVerdict (now (file .entry)) at x ⌝ }
 {
     let from = wire::byte_at(file, at + 2);
@@ -182,18 +183,10 @@ fn pair_verdict(file: &[u8], at: usize, x: Progress) -> Verdict
     if bad_pair(x.counts[2], from, to) {
         return Verdict::Refused(Cause::NotInFile);
     }
-    let first = layout::first_of(x, Kind::Task);
-    if period_of(file, first, from) != period_of(file, first, to) {
+    if period_of(file, x, from) != period_of(file, x, to) {
         return Verdict::Refused(Cause::PeriodsDiffer);
     }
-    if repeated(
-        file,
-        at,
-        layout::first_of(x, Kind::Message),
-        8,
-        x.counts[5],
-        2,
-    ) {
+    if repeated(file, at, x, Kind::Message, 2) {
         return Verdict::Refused(Cause::MessageRepeated);
     }
     Verdict::Taken(Kind::Message, x.hyperperiod)

@@ -7,6 +7,7 @@ use borrow.Author.Needs.{needs}
 use lib.IntN.{pos}
 use lib.ListN.{length, take, drop, length-set}
 use lib.Seq.{sets, length-sets}
+use Rattle.layout.proofs.Places.{longest-is}
 use Rattle.task_report.proofs.Writing.{put-next, put-all}
 use Rattle.task_report.proofs.put_numbers.Statement.{statement}
 use Rattle.task_report.proofs.put_numbers.Tie as tie
@@ -34,7 +35,7 @@ put-numbers-spec =
     (λ c. record { sfits = omega arith })  -- cast-out
     (λ c. search needs)  -- slice-set-from-out
     (λ c κs. search needs)  -- number-concerned-requires
-    (λ c. record { sfits = omega (arith, c .number-concerned .ensures) })  -- cast-out-2
+    (λ c. record { sfits = omega (arith, c .number-concerned .ensures, longest-is) })  -- cast-out-2
     (λ c. simp length-set (omega arith))  -- slice-set-from-out-2
     (λ c. (omega arith, simp length-set (c .before .before .before .pre .2), refl))  -- loop-holds
     (λ c. search needs)  -- mul-out
@@ -57,5 +58,5 @@ put-numbers-spec =
     let number = l .before .before .judgement-number in
     let concerned = l .before .number-concerned in
     let done : l .loop .k ≡ a .n = omega arith in
-    put-all (a .out .now) (a .judged .responses) (number .result) (concerned .result) (a .n) (omega (arith, number)) (omega (arith, concerned .ensures, z .pre)) (omega (arith, all l)) (z .pre .2) (rw done at (l .loop .inv .2))
+    put-all (a .out .now) (a .judged .responses) (number .result) (concerned .result) (a .n) (omega (arith, number)) (omega (arith, concerned .ensures, z .pre, longest-is)) (omega (arith, all l)) (z .pre .2) (rw done at (l .loop .inv .2))
     ∙ ap₂ (λ (x y : ℕ). map pos (x ∷ y ∷ take (a .n) (a .judged .responses)) ++ drop (a .n + 2) (a .out .now)) (number .ensures) (concerned .ensures)))  -- returns

@@ -4,7 +4,6 @@ use mathlib.Core.Bool.{not}
 use native.Mathlib.Omega.{arith}
 use borrow.Author.Tests.{eq-eqb, ne-eqb}
 use borrow.Author.Needs.{needs}
-use Rattle.layout.specs.declared.Kind.the-variants.{Task, Message}
 use Rattle.verdict.proofs.Passed.{pair-known}
 use Rattle.verdict.proofs.Tests.{periods-by, message-by}
 use Rattle.verdict.proofs.pair_verdict.Statement.{statement}
@@ -21,12 +20,9 @@ pair-verdict-spec =
     (λ c. search needs)  -- element-copy-out-bad-pair
     (λ c κs. search needs)  -- bad-pair-requires
     (λ c. simp (← (c .before .before .before .before .byte-at .ensures .0), ← (c .before .before .before .byte-at2 .ensures .0), sym (c .before .bad-pair .ensures) ∙ c .if1 .taken))  -- returns
-    (λ c κs. search needs)  -- first-of-requires
-    (λ c κs. let e = c .before in let s = e .before .before .before .before .before .before in let t = pair-known _ _ _ (sym (e .before .bad-pair .ensures) ∙ e .if1 .left) in let few = s .pre .0 .counted .few in (omega (arith, t .0, few Task), omega (arith, t .0, c .first-of .ensures, s .pre .0 .ends, s .pre .0 .inside)))  -- period-of-requires
-    (λ c κs. let e = c .before .before in let s = e .before .before .before .before .before .before in let t = pair-known _ _ _ (sym (e .before .bad-pair .ensures) ∙ e .if1 .left) in let few = s .pre .0 .counted .few in (omega (arith, t .1, few Task), omega (arith, t .1, c .before .first-of .ensures, s .pre .0 .ends, s .pre .0 .inside)))  -- period-of-requires-2
-    (λ c. let e = c .before .before .before .before in let s = e .before .before .before .before .before .before in let a = s .args in simp (← (e .before .before .before .before .byte-at .ensures .0), ← (e .before .before .before .byte-at2 .ensures .0), sym (e .before .bad-pair .ensures) ∙ e .if1 .left, periods-by (a .file .now) (a .at) (a .t3) (c .before .before .before .first-of .ensures) (e .before .before .before .before .byte-at .ensures .0) (e .before .before .before .byte-at2 .ensures .0) (c .before .before .period-of .ensures) (c .before .period-of2 .ensures) ∙ ap not (ne-eqb _ _ (c .if2 .taken))))  -- returns-2
-    (λ c κs. search needs)  -- first-of-requires-2
-    (λ c. search needs)  -- element-copy-out-repeated
-    (λ c κs. let s = c .before .before .before .before .before .before .before .before .before .before .before .before in let few = s .pre .0 .counted .few in record { few = omega (arith, few Message); short = omega arith; holds = omega arith; rows = omega (arith, c .before .first-of2 .ensures, s .pre .0 .ends, s .pre .0 .inside); one = omega arith })  -- repeated-requires
-    (λ c. let g = c .before .before .before .before in let e = g .before .before .before .before in let s = e .before .before .before .before .before .before in let a = s .args in simp (← (e .before .before .before .before .byte-at .ensures .0), ← (e .before .before .before .byte-at2 .ensures .0), sym (e .before .bad-pair .ensures) ∙ e .if1 .left, periods-by (a .file .now) (a .at) (a .t3) (g .before .before .before .first-of .ensures) (e .before .before .before .before .byte-at .ensures .0) (e .before .before .before .byte-at2 .ensures .0) (g .before .before .period-of .ensures) (g .before .period-of2 .ensures) ∙ ap not (eq-eqb _ _ (g .if2 .left)), message-by (a .file .now) (a .at) (a .t3) (λ k. e .before .before .before .before .before .shared-slice-known .given k .fits) (c .before .before .before .first-of2 .ensures) (c .before .repeated .ensures) ∙ c .if3 .taken))  -- returns-3
-    (λ c. let g = c .before .before .before .before in let e = g .before .before .before .before in let s = e .before .before .before .before .before .before in let a = s .args in simp (← (e .before .before .before .before .byte-at .ensures .0), ← (e .before .before .before .byte-at2 .ensures .0), sym (e .before .bad-pair .ensures) ∙ e .if1 .left, periods-by (a .file .now) (a .at) (a .t3) (g .before .before .before .first-of .ensures) (e .before .before .before .before .byte-at .ensures .0) (e .before .before .before .byte-at2 .ensures .0) (g .before .before .period-of .ensures) (g .before .period-of2 .ensures) ∙ ap not (eq-eqb _ _ (g .if2 .left)), message-by (a .file .now) (a .at) (a .t3) (λ k. e .before .before .before .before .before .shared-slice-known .given k .fits) (c .before .before .before .first-of2 .ensures) (c .before .repeated .ensures) ∙ c .if3 .left)))  -- returns-4
+    (λ c κs. let s = c .before .before .before .before .before .before in (s .pre .0 .counted, omega (arith, s .pre .0 .ends, s .pre .0 .inside), pair-known _ _ _ (sym (c .before .bad-pair .ensures) ∙ c .if1 .left) .0))  -- period-of-requires
+    (λ c κs. let e = c .before in let s = e .before .before .before .before .before .before in (s .pre .0 .counted, omega (arith, s .pre .0 .ends, s .pre .0 .inside), pair-known _ _ _ (sym (e .before .bad-pair .ensures) ∙ e .if1 .left) .1))  -- period-of-requires-2
+    (λ c. let e = c .before .before .before in let a = e .before .before .before .before .before .before .args in simp (← (e .before .before .before .before .byte-at .ensures .0), ← (e .before .before .before .byte-at2 .ensures .0), sym (e .before .bad-pair .ensures) ∙ e .if1 .left, periods-by (a .file .now) (a .at) (a .t3) (e .before .before .before .before .byte-at .ensures .0) (e .before .before .before .byte-at2 .ensures .0) (c .before .before .period-of .ensures) (c .before .period-of2 .ensures) ∙ ap not (ne-eqb _ _ (c .if2 .taken))))  -- returns-2
+    (λ c κs. let s = c .before .before .before .before .before .before .before .before .before in (s .pre .0, s .pre .1, omega arith))  -- repeated-requires
+    (λ c. let g = c .before .before in let e = g .before .before .before in let a = e .before .before .before .before .before .before .args in simp (← (e .before .before .before .before .byte-at .ensures .0), ← (e .before .before .before .byte-at2 .ensures .0), sym (e .before .bad-pair .ensures) ∙ e .if1 .left, periods-by (a .file .now) (a .at) (a .t3) (e .before .before .before .before .byte-at .ensures .0) (e .before .before .before .byte-at2 .ensures .0) (g .before .before .period-of .ensures) (g .before .period-of2 .ensures) ∙ ap not (eq-eqb _ _ (g .if2 .left)), message-by (a .file .now) (a .at) (a .t3) (λ k. e .before .before .before .before .before .shared-slice-known .given k .fits) (c .before .repeated .ensures) ∙ c .if3 .taken))  -- returns-3
+    (λ c. let g = c .before .before in let e = g .before .before .before in let a = e .before .before .before .before .before .before .args in simp (← (e .before .before .before .before .byte-at .ensures .0), ← (e .before .before .before .byte-at2 .ensures .0), sym (e .before .bad-pair .ensures) ∙ e .if1 .left, periods-by (a .file .now) (a .at) (a .t3) (e .before .before .before .before .byte-at .ensures .0) (e .before .before .before .byte-at2 .ensures .0) (g .before .before .period-of .ensures) (g .before .period-of2 .ensures) ∙ ap not (eq-eqb _ _ (g .if2 .left)), message-by (a .file .now) (a .at) (a .t3) (λ k. e .before .before .before .before .before .shared-slice-known .given k .fits) (c .before .repeated .ensures) ∙ c .if3 .left)))  -- returns-4

@@ -8,7 +8,7 @@ use lib.ListN.{length}
 use Rattle.layout.specs.declared.Shape.{Shape}
 use Rattle.layout.specs.Format.{size}
 use Rattle.verdict.specs.Faults.{recordVerdict, recordCut, outOfOrder, tooMany}
-use Rattle.layout.proofs.Limits.{order-below}
+use Rattle.layout.proofs.EachKind.{order-below}
 use Rattle.verdict.proofs.record_verdict.Statement.{statement}
 use Rattle.verdict.proofs.record_verdict.Tie as tie
 
