@@ -19,6 +19,7 @@ use Rattle.table.specs.declared.Groups.{Groups}
 use Rattle.table.specs.Table.{column}
 use Rattle.table.specs.Sound.{Sound}
 use Rattle.table.proofs.Columns.{column-in, column-beyond}
+use Rattle.table.proofs.Times.{work-in-period}
 use Rattle.rules.specs.Rules.{amountOf}
 use Rattle.load.proofs.Work.{work-le}
 use Rattle.rules.proofs.Bounds.{amount-bound}
@@ -90,7 +91,7 @@ module _ (t : Table) (s : Sound t) where
   pub loads-bound : (k : ℕ) → getD (loadsOf t) k 0 ≤ 1000000000
   unfolding loadsOf
   loads-bound = column-all 24 (t .tasks .count) (λ k. getD (t .tasks .c) k 0 * t .hyperperiod / getD (t .tasks .t) k 0) (λ v. v ≤ 1000000000) (s .tasks .most) (omega arith)
-      (λ k l. omega (arith, work-le (getD (t .tasks .c) k 0) (getD (t .tasks .t) k 0) (t .hyperperiod) (omega (arith, s .tasks .c-d k l, s .tasks .d-t k l)), s .hyperperiod-most))
+      (λ k l. omega (arith, work-le (getD (t .tasks .c) k 0) (getD (t .tasks .t) k 0) (t .hyperperiod) (work-in-period s k l), s .hyperperiod-most))
 
   pub amounts-bound : (j : ℕ) → getD (amountsOf t) j 0 ≤ 1000000000000000
   unfolding amountsOf

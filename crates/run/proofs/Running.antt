@@ -10,11 +10,11 @@ use lib.ListN.{length, getD}
 use Rattle.mask.specs.Mask.{has}
 use Rattle.table.specs.declared.Table.{Table}
 use Rattle.table.specs.Sound.{Sound}
-use Rattle.schedule.proofs.LateSets.{late-set}
+use Rattle.schedule.proofs.LateSets.{empty-not-late}
 use Rattle.schedule.specs.Arrays.{InLimits}
 use Rattle.rules.specs.Sets.{standing}
-use Rattle.timing.specs.Timing.{timingOf, tasksIn}
-use Rattle.timing.proofs.Limits.{limits-of, none-below, valid-tasks, constrained-tasks}
+use Rattle.timing.specs.Timing.{timingOf}
+use Rattle.timing.proofs.Limits.{limits-of, none-below}
 use Rattle.ledger.proofs.Append.{ledger-start}
 use Rattle.columns.specs.Columns.{columnsOf, messagesOf}
 use Rattle.partial.specs.declared.Sizes.{Sizes}
@@ -35,7 +35,7 @@ use Rattle.run.specs.Run.{SizesOf, RanAs}
 module _ {t : Table} (h : Sound t) {s : State} (w : Started t s) where
   -- a processor without tasks has no late job
   idle : (p : ℕ) → InTime t (has (getD (s .on) p 0))
-  idle p l = let i = late-set (tasksIn t) (valid-tasks h) (has (getD (s .on) p 0)) (constrained-tasks h) .0 l in w .nothing (i .0) p (i .2)
+  idle p = empty-not-late (λ k. w .nothing k p)
 
   -- every placement has all that the empty one has
   everywhere : (e : List ℕ) → Within (standing (s .on)) e

@@ -5,6 +5,7 @@
 --     late-test       so a test tells whether a set is late
 --     late?           and it is decided
 --     late-within     a set that holds a late set is late
+--     empty-not-late  a set without tasks is not late, whatever the deadlines are
 use mathlib.Core.Path.{_≡_, refl, ap, subst, _∙_}
 use mathlib.Core.Bool.{Bool, true, false, _&&_}
 use mathlib.Core.Logic.{_↔_}
@@ -56,6 +57,14 @@ member-of false d c h = omega arith
 zero-unless : (n : ℕ) → (0 < n → ⊥) → n ≡ 0
 zero-unless zero f = refl
 zero-unless (suc n) f = absurd (f (omega arith))
+
+-- a late job is one of a member
+late-member : {s : Tasks} {on : ℕ → Bool} (q : LateSet s on) → T (on (q .task))
+late-member {s} {on} q = member-of (on (q .task)) (eqb (q .tick % s .T (q .task)) 0) (s .C (q .task)) (omega (arith, q .late .unfinished-at))
+
+-- a set without tasks has no job, so none is late
+pub empty-not-late : {s : Tasks} {on : ℕ → Bool} → ((i : ℕ) → T (on i) → ⊥) → LateSet s on → ⊥
+empty-not-late none q = none (q .task) (late-member q)
 
 module _ (s : Tasks) (valid : Valid s) (on : ℕ → Bool) where
   -- task j's bound: no more than this in any x ticks
@@ -189,7 +198,7 @@ module _ (s : Tasks) (valid : Valid s) (on : ℕ → Bool) where
       forth q =
           let i = q .task in
           let l = q .late .task in
-          let m : T (on i) = member-of (on i) (eqb (q .tick % s .T i) 0) (s .C i) (omega (arith, q .late .unfinished-at)) in
+          let m = late-member q in
           (i, l, m, late-task i l m (short i l) .0 (q .tick, q .late))
 
   -- so a test tells it

@@ -28,10 +28,13 @@ sum-part n zero f e = rw add-zero refl
 sum-part n (suc k) f e = rw add-suc (omega (arith, sum-part n k f e, e (n + k) (omega arith)))
 
 module _ {n : ℕ} {rows : List (List ℕ)} {set : ℕ} (a : InLimits n rows set) where
+  work-in-period : (i : ℕ) → i < n → getD (workRow rows) i 0 ≤ getD (periodRow rows) i 0
+  work-in-period i l = omega (arith, a .in-deadline i l, a .in-period i l)
+
   pub valid-of : Valid (tasksOf n rows)
   valid-of = record {
     works = a .some-work;
-    some-period = λ i l. omega (arith, a .some-work i l, a .in-deadline i l, a .in-period i l);
+    some-period = λ i l. omega (arith, a .some-work i l, work-in-period i l);
     distinct = a .distinct;
   }
 
@@ -39,7 +42,7 @@ module _ {n : ℕ} {rows : List (List ℕ)} {set : ℕ} (a : InLimits n rows set
   constrained-of = a .in-period
 
   pub work-bound : (i : ℕ) → i < n → getD (workRow rows) i 0 ≤ 1000000
-  work-bound i l = omega (arith, a .in-deadline i l, a .in-period i l, a .short-period i l)
+  work-bound i l = omega (arith, work-in-period i l, a .short-period i l)
 
   pub deadline-bound : (i : ℕ) → i < n → getD (deadlineRow rows) i 0 ≤ 1000000
   deadline-bound i l = omega (arith, a .in-period i l, a .short-period i l)

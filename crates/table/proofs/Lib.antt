@@ -8,6 +8,7 @@ pub mod Ended
 pub mod Causes
 pub mod Known
 pub mod Sound
+pub mod Times
 pub mod Records
 pub mod Encoded
 pub mod RecordFields

@@ -22,6 +22,7 @@ use Rattle.verdict.proofs.Taking.{mark-kind}
 use Rattle.table.specs.declared.Table.{Table}
 use Rattle.table.specs.Encode.{encode}
 use Rattle.table.specs.Sound.{Sound}
+use Rattle.table.proofs.Times.{some-period}
 use Rattle.table.proofs.RecordFields.{stands-mark, stands-whole}
 use Rattle.table.proofs.EncodedRecords.{whole, values-fit, record-stands, field-at}
 use Rattle.table.proofs.Stage.{progressAt, period, count-here, count-before, place-at}
@@ -75,14 +76,7 @@ module _ {t : Table} (h : Sound t) where
       (ne-eqb (getD (t .tasks .priority) i 0) (getD (t .tasks .priority) j 0) (λ e. omega (arith, count-here t Task j n, h .tasks .distinct i j p l e))))
 
   multiple-most : (j : ℕ) → j < t .tasks .count → lcmTo (suc j) (period t) ≤ 1000000000
-  multiple-most j l =
-      let a = h .tasks in
-      omega (
-        arith,
-        lcmTo-mono (suc j) (t .tasks .count) (period t) (λ i p. omega (arith, a .works i p, a .c-d i p, a .d-t i p)) l,
-        h .hyperperiod,
-        h .hyperperiod-most,
-      )
+  multiple-most j l = omega (arith, lcmTo-mono (suc j) (t .tasks .count) (period t) (some-period h) l, h .hyperperiod, h .hyperperiod-most)
 
   multiple-small : (j n : ℕ) → j < t .tasks .count → hyperperiodTooLarge (encode t) (place (whole t) Task j) (progressAt t Task j n) Task ≡ false
   unfolding hyperperiodTooLarge lcmTo

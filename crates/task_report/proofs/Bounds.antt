@@ -22,6 +22,7 @@ use Rattle.table.specs.Table.{readOf}
 use Rattle.table.proofs.Columns.{column-in, column-beyond}
 use Rattle.table.proofs.Ended.{refused-place}
 use Rattle.table.proofs.Sound.{read-sound}
+use Rattle.table.proofs.Times.{deadline-most}
 use Rattle.schedule.specs.Periodic.{Tasks}
 use Rattle.schedule.specs.Response.{demand, leastSolution, response}
 use Rattle.timing.specs.Timing.{tasksIn}
@@ -70,7 +71,7 @@ module _ {t : Table} (s : Sound t) where
   responses-most q k = go (decLt k (t .tasks .count))
     where
       go : Dec (k < t .tasks .count) → getD (responsesOf t q) k 0 ≤ 1000000
-      go (yes l) = omega (arith, column-in 24 (t .tasks .count) (responseOf (tasksIn t) q) k (s .tasks .most) l, response-most (tasksIn t) (alongside q k) k, s .tasks .d-t k l, s .tasks .ticks k l)
+      go (yes l) = omega (arith, column-in 24 (t .tasks .count) (responseOf (tasksIn t) q) k (s .tasks .most) l, response-most (tasksIn t) (alongside q k) k, deadline-most s k l)
       go (no l) = omega (arith, column-beyond 24 (t .tasks .count) (responseOf (tasksIn t) q) k (omega arith))
 
   pub judged-small : (q : List ℕ) → Small (judgedOn t q)

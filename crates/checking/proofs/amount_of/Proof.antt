@@ -4,6 +4,7 @@ use Prim.Native.Nat.{_<_}
 use native.Mathlib.Omega.{arith}
 use borrow.Author.Needs.{needs}
 use lib.ListN.{getD}
+use Rattle.table.proofs.Times.{some-period}
 use Rattle.rules.proofs.Bounds.{amount-bound}
 use Rattle.checking.proofs.amount_of.Statement.{statement}
 use Rattle.checking.proofs.amount_of.Tie as tie
@@ -28,10 +29,7 @@ amount-of-spec =
     (λ c κs. search needs)  -- wide-requires-2
     (λ c.
     let s = c .before .before .before .before .before .before .before .before in
-    let a = s .pre .0 .tasks in
-    let i = getD (s .args .t .messages .sender) (s .args .j) 0 in
-    let l = s .pre .0 .messages .from-task (s .args .j) (s .pre .1) in
-    omega (arith, c .wide2 .ensures, a .works i l, a .c-d i l, a .d-t i l))  -- div-result
+    omega (arith, c .wide2 .ensures, some-period (s .pre .0) _ (s .pre .0 .messages .from-task (s .args .j) (s .pre .1))))  -- div-result
     (λ c.
     let s = c .before .before .before .before .before .before .before .before in
     rw (c .before .before .before .wide .ensures .0, c .wide2 .ensures .0) (refl, amount-bound (s .args .t) (s .pre .0) (s .args .j) (s .pre .1) .1)))  -- returns

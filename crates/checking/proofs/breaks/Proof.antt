@@ -7,6 +7,7 @@ use borrow.Author.Needs.{needs}
 use lib.Dec.{lt→ltb}
 use Rattle.table.specs.declared.Table.{Table}
 use Rattle.table.specs.Sound.{Sound}
+use Rattle.table.proofs.Times.{work-in-period, some-period}
 use Rattle.rules.specs.Rules.{residenceBroken, coResidenceBroken, exclusionBroken, memoryOn, memoryBroken, loadOn, utilisationBroken, networkBroken}
 use Rattle.rules.specs.Sets.{outsideOf, memoryOf, loadOf, Works}
 use Rattle.rules.proofs.Bounds.{some-tick}
@@ -36,8 +37,8 @@ with-deadline c = let s = c .before .before .before .before .before .before in o
 works : {t : Table} → Sound t → Works (t .tasks)
 works s = record {
   few = s .tasks .most;
-  some-period = λ k l. omega (arith, s .tasks .works k l, s .tasks .c-d k l, s .tasks .d-t k l);
-  within = λ k l. omega (arith, s .tasks .c-d k l, s .tasks .d-t k l);
+  some-period = some-period s;
+  within = work-in-period s;
   ticks = s .tasks .ticks;
 }
 

@@ -6,6 +6,7 @@ use native.Mathlib.Omega.{arith}
 use borrow.Author.Needs.{needs}
 use borrow.Author.Tests.{lt-ltb, eq-eqb, ne-eqb}
 use lib.ListN.{length, getD}
+use Rattle.table.proofs.Times.{work-in-period, some-period}
 use Rattle.load.specs.declared.Load.{Load}
 use Rattle.rules.specs.Placement.{placed}
 use Rattle.rules.specs.Rules.{loadOn}
@@ -47,19 +48,17 @@ load-on-spec =
     let l = c .before .before .before .before in
     let k = l .before .loop .k in
     let h = l .before .before .before .before .pre .0 in
-    let a = h .tasks in
-    (omega (arith, a .works k (of-table l), a .c-d k (of-table l), a .d-t k (of-table l)), omega (arith, a .c-d k (of-table l), a .d-t k (of-table l)), a .ticks k (of-table l), h .hyperperiod-most, omega (arith, l .before .loop .inv .small, few l)))  -- with-task-requires
+    (some-period h k (of-table l), work-in-period h k (of-table l), h .tasks .ticks k (of-table l), h .hyperperiod-most, omega (arith, l .before .loop .inv .small, few l)))  -- with-task-requires
     (λ c. search needs)  -- add-k
     (λ c. search needs)  -- loop-less
     (λ c.
     let l = c .before .before in
     let h = l .before .before .before .before .pre .0 in
-    let a = h .tasks in
     let k = l .before .loop .k in
     ⊎-elim
     (λ w.
     rw (ap (λ (x : Load). x .0) (w .4) ∙ w .3 .ensures)
-    (summing-in (l .before .loop .inv) (of-table l) (rw (lt-ltb _ _ (l .loop-test .taken), eq-eqb _ _ (w .0 .taken)) refl) refl (omega (arith, work-le (getD (l .before .before .before .before .args .table .tasks .c) k 0) (getD (l .before .before .before .before .args .table .tasks .t) k 0) (l .before .before .before .before .args .table .hyperperiod) (omega (arith, a .c-d k (of-table l), a .d-t k (of-table l))), h .hyperperiod-most))))
+    (summing-in (l .before .loop .inv) (of-table l) (rw (lt-ltb _ _ (l .loop-test .taken), eq-eqb _ _ (w .0 .taken)) refl) refl (omega (arith, work-le (getD (l .before .before .before .before .args .table .tasks .c) k 0) (getD (l .before .before .before .before .args .table .tasks .t) k 0) (l .before .before .before .before .args .table .hyperperiod) (work-in-period h k (of-table l)), h .hyperperiod-most))))
     (λ w. rw (w .1) (summing-out (l .before .loop .inv) (of-table l) (rw (lt-ltb _ _ (l .loop-test .taken), ne-eqb _ _ (w .0 .left)) refl)))
     (c .if1 .came))  -- loop-again
     (λ c.
