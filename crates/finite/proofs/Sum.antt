@@ -2,6 +2,7 @@
 use mathlib.Core.Path.{_≡_, refl, ap}
 use mathlib.Core.Logic.{_≢_}
 use Prim.Native.Nat.{ℕ, zero, suc, _+_, _≤_, _<_}
+use native.Mathlib.Nat.{add-zero, add-suc}
 use native.Mathlib.Omega.{arith}
 use native.Mathlib.Decide.{ℕ-discrete}
 use Rattle.finite.specs.Finite.{sumTo}
@@ -25,6 +26,12 @@ pub sum-add : (n : ℕ) (f g : ℕ → ℕ) → sumTo n (λ j. f j + g j) ≡ su
 unfolding sumTo
 sum-add zero f g = refl
 sum-add (suc n) f g = omega (arith, sum-add n f g)
+
+-- a sum whose later terms are 0
+pub sum-part : (n k : ℕ) (f : ℕ → ℕ) → ((j : ℕ) → n ≤ j → f j ≡ 0) → sumTo (n + k) f ≡ sumTo n f
+unfolding sumTo
+sum-part n zero f e = rw add-zero refl
+sum-part n (suc k) f e = rw add-suc (omega (arith, sum-part n k f e, e (n + k) (omega arith)))
 
 -- two sums that differ at m alone
 pub sum-at : (n : ℕ) (f g : ℕ → ℕ) (m k : ℕ) → m < n → ((j : ℕ) → j < n → j ≢ m → f j ≡ g j) → f m ≡ g m + k → sumTo n f ≡ sumTo n g + k

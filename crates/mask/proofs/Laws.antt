@@ -3,7 +3,7 @@ use mathlib.Core.Path.{_≡_, refl, sym, ap, _∙_}
 use mathlib.Core.Logic.{_≢_, ⊎-elim}
 use mathlib.Core.Bool.{Bool, true, false, not, _&&_, _||_, and-false}
 use Prim.Native.Nat.{ℕ, zero, suc, _+_, _-_, _*_, _/_, _%_, _^_, _<_, _≤_, min, max}
-use native.Mathlib.Nat.{one-mul, div-one, div-eq-of-lt, div-mul-le-self, mod-le, mul-le-mul-right, pow-suc, zero-div, le-of-suc-le-suc, lt-of-not-le, lt-of-lt-of-le, lt-of-le-of-lt, le-antisymm, mul-assoc, le-div-iff-mul-le, div-lt-iff-lt-mul, le-of-eq}
+use native.Mathlib.Nat.{one-mul, div-one, div-eq-of-lt, div-mul-le-self, mod-le, mul-le-mul-right, pow-suc, zero-div, le-of-suc-le-suc, lt-of-not-le, lt-of-lt-of-le, lt-of-le-of-lt, le-antisymm, mul-assoc, le-div-iff-mul-le, div-lt-iff-lt-mul, le-of-eq, le-dest}
 use native.Mathlib.Decide.{ℕ-discrete}
 use native.Mathlib.Omega.{arith}
 use borrow.Author.Tests.{eq-eqb, ne-eqb, lt-ltb, le-ltb}
@@ -12,11 +12,12 @@ use lib.Bits.{bitAnd, bitOr, and-step, or-step, and-shr, or-shr, or-shifted-r, a
 use lib.Count.{ones, ones-step, trailingZeros, under}
 use lib.Pow.{shl-exact, pow-add, pow-mono, pow-pos, shr-shr}
 use Rattle.finite.specs.Finite.{only, sumTo}
-use Rattle.finite.proofs.Sum.{sum-at, sum-ext}
+use Rattle.finite.proofs.Sum.{sum-at, sum-ext, sum-part, sum-zero}
+use Rattle.finite.proofs.Only.{only-le, only-out, sum-bound, sum-more}
 use Rattle.finite.proofs.Some.{or-either}
 use Rattle.finite.proofs.First.{First, first, found, missing}
 use Rattle.mask.proofs.Tests.{same-test, and-both, and-left, and-right}
-use Rattle.mask.specs.Mask.{bit, has, Subset, within, below, cardinality, insertOf, removeOf, lowestOf, maskOf}
+use Rattle.mask.specs.Mask.{bit, has, Subset, within, below, cardinality, insertOf, removeOf, lowestOf, maskOf, sumOver}
 
 -- ---- a digit is 1 or 0 as the test says
 
@@ -222,8 +223,8 @@ within-subset c s t k h = and-right (has c k) (has s k) (rw (has-and c s k) at (
 -- ---- sums over the members, and the size
 
 -- one member apart
-pub sum-remove : (n m : ℕ) (f : ℕ → ℕ) (k : ℕ) → k < n → T (has m k)
-    → sumTo n (λ j. only (has m j) (f j)) ≡ sumTo n (λ j. only (has (removeOf m k) j) (f j)) + f k
+pub sum-remove : (n m : ℕ) (f : ℕ → ℕ) (k : ℕ) → k < n → T (has m k) → sumOver n m f ≡ sumOver n (removeOf m k) f + f k
+unfolding sumOver
 sum-remove n m f k l t = sum-at n (λ j. only (has m j) (f j)) (λ j. only (has (removeOf m k) j) (f j)) k (f k) l other here
   where
     other : (j : ℕ) → j < n → j ≢ k → only (has m j) (f j) ≡ only (has (removeOf m k) j) (f j)
@@ -236,7 +237,37 @@ sum-remove n m f k l t = sum-at n (λ j. only (has m j) (f j)) (λ j. only (has 
         in-m true u = omega arith
         in-m false u = absurd u
 
-cardinality-only : (w m : ℕ) → cardinality w m ≡ sumTo w (λ j. only (has m j) 1)
+-- no members
+pub sum-none : (n : ℕ) (f : ℕ → ℕ) → sumOver n 0 f ≡ 0
+unfolding sumOver
+sum-none n f = sum-zero n (λ j. only (has 0 j) (f j)) (λ j l. rw (has-zero j) refl)
+
+-- fewer members
+pub sum-subset : (n c s : ℕ) (f : ℕ → ℕ) → Subset c s → sumOver n c f ≤ sumOver n s f
+unfolding sumOver
+sum-subset n c s f sub = sum-more n (has c) (has s) f (λ j l. sub j)
+
+-- other terms, the same of each member
+pub sum-same : (n m : ℕ) (f g : ℕ → ℕ) → ((k : ℕ) → k < n → T (has m k) → f k ≡ g k) → sumOver n m f ≡ sumOver n m g
+unfolding sumOver
+sum-same n m f g e = sum-ext n (λ j. only (has m j) (f j)) (λ j. only (has m j) (g j)) (λ j l. go (has m j) (e j l))
+  where
+    go : (b : Bool) {x y : ℕ} → (T b → x ≡ y) → only b x ≡ only b y
+    go true h = h tt
+    go false h = refl
+
+-- terms of at most b each
+pub sum-most : (n m : ℕ) (f : ℕ → ℕ) (b : ℕ) → ((k : ℕ) → T (has m k) → f k ≤ b) → sumOver n m f ≤ n * b
+unfolding sumOver
+sum-most n m f b h = sum-bound n (λ j. only (has m j) (f j)) b (λ j l. only-le (has m j) (f j) b (h j))
+
+-- numbers beyond the members add nothing
+pub sum-wider : (n w m : ℕ) (f : ℕ → ℕ) → n ≤ w → T (below n m) → sumOver w m f ≡ sumOver n m f
+unfolding sumOver
+sum-wider n w m f l b = let k = le-dest l in rw (k .1) at (sum-part n (k .0) (λ j. only (has m j) (f j)) (λ j h. only-out (has m j) (f j) (λ u. omega (arith, below-has n m b j u))))
+
+cardinality-only : (w m : ℕ) → cardinality w m ≡ sumOver w m (λ j. 1)
+unfolding sumOver
 cardinality-only w m = sum-ext w (bit m) (λ j. only (has m j) 1) (λ j l. bit-only m j)
 
 pub cardinality-remove : (w m k : ℕ) → k < w → T (has m k) → cardinality w m ≡ cardinality w (removeOf m k) + 1

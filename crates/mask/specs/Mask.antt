@@ -44,3 +44,7 @@ lowestOf w m = firstFrom w (has m) 0
 -- the numbers below n that pass the test p
 abbrev pub maskOf : ℕ → (ℕ → Bool) → ℕ
 maskOf n p = sumTo n (λ k. only (p k) (2 ^ k))
+
+-- the sum of f over the numbers below n that are in m
+unfoldable pub sumOver : ℕ → ℕ → (ℕ → ℕ) → ℕ
+sumOver n m f = sumTo n (λ k. only (has m k) (f k))

@@ -9,31 +9,22 @@ use native.Mathlib.Omega.{arith}
 use lib.Dec.{T, eqb, eqb→eq}
 use lib.ListN.{length, getD, set, replicate, length-set, length-replicate}
 use lib.Seq.{getD-set-same, getD-set-other}
-use Rattle.finite.proofs.Sum.{sum-zero}
-use Rattle.finite.proofs.Only.{only-out}
 use Rattle.finite.proofs.Stored.{zeros}
-use Rattle.mask.specs.Mask.{has, Subset}
-use Rattle.mask.proofs.Laws.{has-zero}
+use Rattle.mask.specs.Mask.{has, Subset, sumOver}
+use Rattle.mask.proofs.Laws.{sum-none, sum-subset}
 use Rattle.mask.proofs.Tests.{and-left, and-right}
 use Rattle.table.specs.declared.Table.{Table}
 use Rattle.timing.specs.Timing.{tasksIn}
 use Rattle.known.specs.Known.{Knows}
-use Rattle.packing.specs.Packing.{weightOf}
-use Rattle.packing.proofs.Taking.{weight-less}
 use Rattle.memo.specs.declared.Recalled.{Recalled}
 use Rattle.memo.specs.Memo.{Capped, Entry, Memo, Learnt, entryOf, isFor, recallOf, keepOf}
 
--- no task
-pub weight-none : (n : ℕ) (weights : List ℕ) → weightOf n weights 0 ≡ 0
-unfolding weightOf
-weight-none n weights = sum-zero n _ (λ k l. only-out (has 0 k) (getD weights k 0) (λ u. rw (has-zero k) at u))
-
 -- an entry of zeros has no candidates
 zeros-cap : {t : Table} {columns : List (List ℕ)} (n j : ℕ) → Entry t columns (replicate n 0) j
-zeros-cap n j = record { bounds = λ x w f. none _ _ x (λ k u. subst (λ (m : ℕ). T (has m k)) (zeros n (j + 1)) (f k u)) }
+zeros-cap n j = record { bounds = λ x w f. none _ x _ (λ k u. subst (λ (m : ℕ). T (has m k)) (zeros n (j + 1)) (f k u)) }
   where
-    none : (m : ℕ) (weights : List ℕ) {top : ℕ} (x : ℕ) → Subset x 0 → weightOf m weights x ≤ top
-    none m weights x f = omega (arith, weight-less m weights x 0 f, weight-none m weights)
+    none : (m x : ℕ) (g : ℕ → ℕ) {top : ℕ} → Subset x 0 → sumOver m x g ≤ top
+    none m x g f = omega (arith, sum-subset m x 0 g f, sum-none m g)
 
 pub memo-start : {t : Table} {columns : List (List ℕ)} → Memo t columns (replicate 12288 0)
 memo-start = record { long = length-replicate {A = ℕ} 12288 0; entries = λ j l. zeros-cap 12288 (6 * j) }

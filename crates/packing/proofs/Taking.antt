@@ -2,7 +2,7 @@
 use mathlib.Core.Path.{_≡_, refl, subst, fun-ext}
 use mathlib.Core.Bool.{Bool, true, false, not, _&&_, _||_}
 use mathlib.Core.List.{List}
-use Prim.Native.Nat.{ℕ, _+_, _-_, _^_, _≤_, _<_}
+use Prim.Native.Nat.{ℕ, _-_, _^_, _≤_, _<_}
 use native.Mathlib.Nat.{lt-of-le-of-lt}
 use native.Mathlib.Omega.{arith}
 use native.Mathlib.Decide.{ℕ-discrete}
@@ -10,21 +10,10 @@ use lib.Bits.{bitAnd, and-le-r}
 use lib.Dec.{T, eqb, leb, eqb→eq, ltb→lt, leb→le, le→leb}
 use lib.ListN.{getD}
 use Rattle.finite.proofs.Some.{or-left}
-use Rattle.finite.proofs.Only.{sum-more}
-use Rattle.mask.specs.Mask.{has, Subset, below, insertOf, removeOf}
+use Rattle.mask.specs.Mask.{has, below, insertOf, removeOf}
 use Rattle.mask.proofs.Tests.{and-both, and-left, and-right}
 use Rattle.mask.proofs.Laws.{has-and, has-insert, has-remove, remove-subset, some-member, sum-remove}
-use Rattle.packing.specs.Packing.{weightOf, hasRoom, joined, Takes}
-
--- one task apart
-pub weight-remove : (n : ℕ) (column : List ℕ) (x k : ℕ) → k < n → T (has x k) → weightOf n column x ≡ weightOf n column (removeOf x k) + getD column k 0
-unfolding weightOf
-weight-remove n column x k l u = sum-remove n x (λ j. getD column j 0) k l u
-
--- a smaller set
-pub weight-less : (n : ℕ) (column : List ℕ) (x y : ℕ) → Subset x y → weightOf n column x ≤ weightOf n column y
-unfolding weightOf
-weight-less n column x y f = sum-more n (has x) (has y) (λ j. getD column j 0) (λ j l. f j)
+use Rattle.packing.specs.Packing.{hasRoom, joined, Takes}
 
 -- another kind of sets
 pub takes-map : {n : ℕ} {memory exclusions loads : List ℕ} {B C : (ℕ → Bool) → Type 0} {on space spare x : ℕ} → ((y : ℕ → Bool) → C y → B y)
@@ -73,8 +62,8 @@ module _ {n : ℕ} {memory exclusions loads : List ℕ} {B : (ℕ → Bool) → 
   takes-room low =
       and-both (leb (getD memory k 0) space && leb (getD loads k 0) spare) (eqb (bitAnd (getD exclusions k 0) on) 0)
       (and-both (leb (getD memory k 0) space) (leb (getD loads k 0) spare)
-      (le→leb (getD memory k 0) space (omega (arith, weight-remove n memory x k l u, w .enough-memory)))
-      (le→leb (getD loads k 0) spare (omega (arith, weight-remove n loads x k l u, w .enough-load))))
+      (le→leb (getD memory k 0) space (omega (arith, sum-remove n x (λ j. getD memory j 0) k l u, w .enough-memory)))
+      (le→leb (getD loads k 0) spare (omega (arith, sum-remove n x (λ j. getD loads j 0) k l u, w .enough-load))))
       (go (ℕ-discrete (bitAnd (getD exclusions k 0) on) 0))
     where
       go : Dec (bitAnd (getD exclusions k 0) on ≡ 0) → T (eqb (bitAnd (getD exclusions k 0) on) 0)
@@ -84,8 +73,8 @@ module _ {n : ℕ} {memory exclusions loads : List ℕ} {B : (ℕ → Bool) → 
   -- with k there, it can take the rest
   pub takes-next : Takes n memory exclusions loads B (insertOf on k) (space - getD memory k 0) (spare - getD loads k 0) (removeOf x k)
   takes-next = record {
-    enough-memory = omega (arith, weight-remove n memory x k l u, w .enough-memory);
-    enough-load = omega (arith, weight-remove n loads x k l u, w .enough-load);
+    enough-memory = omega (arith, sum-remove n x (λ j. getD memory j 0) k l u, w .enough-memory);
+    enough-load = omega (arith, sum-remove n x (λ j. getD loads j 0) k l u, w .enough-load);
     apart = λ j i v o. w .apart j i (remove-subset x k i v) (subst T (joined-next on x k u j) o);
     clear = λ b. w .clear (subst B (fun-ext (joined-next on x k u)) b);
   }

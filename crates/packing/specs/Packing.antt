@@ -5,16 +5,16 @@ use Prim.Native.Nat.{ℕ, _+_, _≤_}
 use lib.Bits.{bitAnd}
 use lib.Dec.{T, eqb, leb}
 use lib.ListN.{getD}
-use Rattle.finite.specs.Finite.{only, sumTo}
-use Rattle.mask.specs.Mask.{has, below, Subset, removeOf}
+use Rattle.mask.specs.Mask.{has, below, Subset, removeOf, sumOver}
 use Rattle.schedule.specs.Periodic.{Tasks}
 use Rattle.schedule.specs.Arrays.{tasksOf, InLimits}
 use Rattle.ledger.specs.Ledger.{Ledger, Grows, Bad}
+use Rattle.packing.specs.declared.Pack.{Pack}
 use Rattle.packing.specs.declared.Packed.{Packed}
 
 -- the sum of the column's numbers of the tasks in the set
-unfoldable pub weightOf : ℕ → List ℕ → ℕ → ℕ
-weightOf n column set = sumTo n (λ k. only (has set k) (getD column k 0))
+abbrev pub weightOf : ℕ → List ℕ → ℕ → ℕ
+weightOf n column set = sumOver n set (λ k. getD column k 0)
 
 -- task k fits what is left of memory (space) and load (spare), and none of the tasks there is excluded from it
 abbrev pub hasRoom : List ℕ → List ℕ → List ℕ → ℕ → ℕ → ℕ → ℕ → Bool
@@ -33,29 +33,29 @@ pub record Takes (n : ℕ) (memory exclusions loads : List ℕ) (B : (ℕ → Bo
   pub clear : B (joined on x) → ⊥
 
 -- what the calculation begins with: tasks within the limits, on the processor and candidates for it, and the list of conflicts
-pub record Packs (n : ℕ) (timing : List (List ℕ)) (places on candidates : ℕ) (list : List ℕ) (count : ℕ) : Type 0 where
-  pub limits : InLimits n timing on
-  pub tasks : T (below n candidates)
+pub record Packs (n : ℕ) (timing : List (List ℕ)) (places : ℕ) (pack : Pack) (list : List ℕ) (count : ℕ) : Type 0 where
+  pub limits : InLimits n timing (pack .on)
+  pub tasks : T (below n (pack .candidates))
   pub ledger : Ledger (tasksOf n timing) places list count
 
 -- c holds only tasks that stand on the processor or are candidates for it
-abbrev pub Among : ℕ → ℕ → ℕ → Type 0
-Among on candidates c = (k : ℕ) → T (has c k) → T (joined on candidates k)
+abbrev pub Among : Pack → ℕ → Type 0
+Among pack c = (k : ℕ) → T (has c k) → T (joined (pack .on) (pack .candidates) k)
 
 -- a bound on the weight of what can be taken: of any such x among the candidates that comes to no more than `stop`
-pub record PackedAs (n : ℕ) (s : Tasks) (listing : Bool) (places : ℕ) (memory exclusions loads weights : List ℕ) (on candidates space spare weight stop best : ℕ)
-    (old : List ℕ) (before : ℕ) (new : List ℕ) (r : Packed) : Type 0 where
-  pub ledger : Ledger s places new (r .count)
-  pub grows : Grows (Among on candidates) old before new (r .count)
-  pub no-less : best ≤ r .most
-  pub bounds : (x : ℕ) → Takes n memory exclusions loads (Bad s listing new (r .count)) on space spare x → Subset x candidates
-      → weight + weightOf n weights x ≤ stop → weight + weightOf n weights x ≤ r .most
+pub record PackedAs (n : ℕ) (s : Tasks) (listing : Bool) (places : ℕ) (memory exclusions loads weights : List ℕ) (pack : Pack) (old : List ℕ) (before : ℕ) (new : List ℕ) (r : Packed) : Type 0
+  where
+    pub ledger : Ledger s places new (r .count)
+    pub grows : Grows (Among pack) old before new (r .count)
+    pub no-less : pack .best ≤ r .most
+    pub bounds : (x : ℕ) → Takes n memory exclusions loads (Bad s listing new (r .count)) (pack .on) (pack .space) (pack .spare) x → Subset x (pack .candidates)
+        → pack .weight + weightOf n weights x ≤ pack .stop → pack .weight + weightOf n weights x ≤ r .most
 
 -- the same of those x that have the candidate k, beside the other candidates
-pub record TakenAs (n : ℕ) (s : Tasks) (listing : Bool) (places : ℕ) (memory exclusions loads weights : List ℕ) (on k candidates space spare weight stop best : ℕ)
-    (old : List ℕ) (before : ℕ) (new : List ℕ) (r : Packed) : Type 0 where
+pub record TakenAs (n : ℕ) (s : Tasks) (listing : Bool) (places : ℕ) (memory exclusions loads weights : List ℕ) (pack : Pack) (k : ℕ) (old : List ℕ) (before : ℕ) (new : List ℕ) (r : Packed)
+    : Type 0 where
   pub ledger : Ledger s places new (r .count)
-  pub grows : Grows (λ c. (j : ℕ) → T (has c j) → T (eqb j k || joined on candidates j)) old before new (r .count)
-  pub no-less : best ≤ r .most
-  pub bounds : (x : ℕ) → Takes n memory exclusions loads (Bad s listing new (r .count)) on space spare x → T (has x k) → Subset (removeOf x k) candidates
-      → weight + weightOf n weights x ≤ stop → weight + weightOf n weights x ≤ r .most
+  pub grows : Grows (λ c. (j : ℕ) → T (has c j) → T (eqb j k || joined (pack .on) (pack .candidates) j)) old before new (r .count)
+  pub no-less : pack .best ≤ r .most
+  pub bounds : (x : ℕ) → Takes n memory exclusions loads (Bad s listing new (r .count)) (pack .on) (pack .space) (pack .spare) x → T (has x k) → Subset (removeOf x k) (pack .candidates)
+      → pack .weight + weightOf n weights x ≤ pack .stop → pack .weight + weightOf n weights x ≤ r .most

@@ -16,6 +16,21 @@ use ledger::Mode;
 use numbers::wide;
 use schedule::Timing;
 
+// A processor and what it may still be given: the tasks on it, and the candidates, which are tried in the guide's order from `at` on; what is left of
+// its memory (space) and load (spare); the weight taken so far, and what that comes to with all candidates (reach). Only what is below `stop` counts;
+// `best` is reached by other candidates.
+pub struct Pack {
+    pub on: u32,
+    pub candidates: u32,
+    pub at: usize,
+    pub space: u64,
+    pub spare: u64,
+    pub weight: u64,
+    pub reach: u64,
+    pub stop: u64,
+    pub best: u64,
+}
+
 // No less than the most weight that a processor can take, and how many conflicts are listed then.
 pub struct Packed {
     pub most: u64,
@@ -36,56 +51,49 @@ fn room(columns: &Columns, on: u32, space: u64, spare: u64, k: usize) -> bool
     columns[EXCLUSIONS][k] & on == 0
 }
 
-// The candidate k taken: the most weight with it, where it can stand there; else the best so far.
+// The candidate k taken, beside those of `pack`: the most weight with it, where it can stand there; else the best so far.
 fn take<'a>(
     timing: &'a Timing,
     columns: &'a Columns,
     weights: &'a [u32; 24],
     n: usize,
-    on: u32,
+    pack: Pack,
     k: usize,
-    at: usize,
-    candidates: u32,
-    space: u64,
-    spare: u64,
-    weight: u64,
-    reach: u64,
-    stop: u64,
-    best: u64,
     mode: Mode,
     list: &mut [u8],
     count: usize,
     known: &mut Known,
 ) -> Packed
-    requires { ⌜ Packs n (now timing) (mode .places) on candidates (now list) count
-        × (k < n) × (reach ≡ weight + getD (now weights) k 0 + weightOf n (now weights) candidates) × Knows (tasksOf n (now timing)) (now known) ⌝ }
-    ensures { λ r. ⌜ TakenAs n (tasksOf n (now (timing .entry))) (mode .listing) (mode .places) (memoryRow (now (columns .entry))) (exclusionRow (now (columns .entry))) (loadRow (now (columns .entry))) (now (weights .entry)) on k candidates space spare weight stop best (now (list .entry)) count (now (list .exit)) r × Knows (tasksOf n (now (timing .entry))) (now (known .exit)) ⌝ }
+    requires { ⌜ Packs n (now timing) (mode .places) pack (now list) count
+        × (k < n) × (pack .reach ≡ pack .weight + getD (now weights) k 0 + weightOf n (now weights) (pack .candidates)) × Knows (tasksOf n (now timing)) (now known) ⌝ }
+    ensures { λ r. ⌜ TakenAs n (tasksOf n (now (timing .entry))) (mode .listing) (mode .places) (memoryRow (now (columns .entry))) (exclusionRow (now (columns .entry)))
+        (loadRow (now (columns .entry))) (now (weights .entry)) pack k (now (list .entry)) count (now (list .exit)) r × Knows (tasksOf n (now (timing .entry))) (now (known .exit)) ⌝ }
 {
-    if !room(columns, on, space, spare, k) {
-        return Packed { most: best, count };
+    if !room(columns, pack.on, pack.space, pack.spare, k) {
+        return Packed {
+            most: pack.best,
+            count,
+        };
     }
-    let set = mask::insert(on, k);
+    let set = mask::insert(pack.on, k);
     let tested = ledger::test(timing, n, set, mode, list, count, known);
     if tested.bad {
         return Packed {
-            most: best,
+            most: pack.best,
             count: tested.count,
         };
     }
+    let mut with_k = pack;
+    with_k.on = set;
+    with_k.space = pack.space - wide(columns[MEMORY][k]);
+    with_k.spare = pack.spare - wide(columns[LOAD][k]);
+    with_k.weight = pack.weight + wide(weights[k]);
     most(
         timing,
         columns,
         weights,
         n,
-        set,
-        at,
-        candidates,
-        space - wide(columns[MEMORY][k]),
-        spare - wide(columns[LOAD][k]),
-        weight + wide(weights[k]),
-        reach,
-        stop,
-        best,
+        with_k,
         mode,
         list,
         tested.count,
@@ -93,75 +101,57 @@ fn take<'a>(
     )
 }
 
-// No less than the most weight that the processor can come to, of what is below `stop`: `weight` is taken, the candidates may be,
-// `reach` is the weight with all of them. They are tried in the guide's order from `at` on; those that it leaves out count in full.
+// No less than the most weight that the processor can come to, of what is below `stop`. The candidates that the guide's order leaves out count in full.
 pub fn most<'a>(
     timing: &'a Timing,
     columns: &'a Columns,
     weights: &'a [u32; 24],
     n: usize,
-    on: u32,
-    at: usize,
-    candidates: u32,
-    space: u64,
-    spare: u64,
-    weight: u64,
-    reach: u64,
-    stop: u64,
-    best: u64,
+    pack: Pack,
     mode: Mode,
     list: &mut [u8],
     count: usize,
     known: &mut Known,
 ) -> Packed
-    requires { ⌜ Packs n (now timing) (mode .places) on candidates (now list) count
-        × (reach ≡ weight + weightOf n (now weights) candidates) × Knows (tasksOf n (now timing)) (now known) ⌝ }
-    ensures { λ r. ⌜ PackedAs n (tasksOf n (now (timing .entry))) (mode .listing) (mode .places) (memoryRow (now (columns .entry))) (exclusionRow (now (columns .entry))) (loadRow (now (columns .entry))) (now (weights .entry)) on candidates space spare weight stop best (now (list .entry)) count (now (list .exit)) r × Knows (tasksOf n (now (timing .entry))) (now (known .exit)) ⌝ }
+    requires { ⌜ Packs n (now timing) (mode .places) pack (now list) count
+        × (pack .reach ≡ pack .weight + weightOf n (now weights) (pack .candidates)) × Knows (tasksOf n (now timing)) (now known) ⌝ }
+    ensures { λ r. ⌜ PackedAs n (tasksOf n (now (timing .entry))) (mode .listing) (mode .places) (memoryRow (now (columns .entry))) (exclusionRow (now (columns .entry)))
+        (loadRow (now (columns .entry))) (now (weights .entry)) pack (now (list .entry)) count (now (list .exit)) r × Knows (tasksOf n (now (timing .entry))) (now (known .exit)) ⌝ }
 {
-    let mut next = at;
-    let mut left = candidates;
-    let mut all = reach;
-    let mut top = best;
+    let mut left = pack;
     let mut listed = count;
-    if top < weight {
-        top = weight;
+    if left.best < left.weight {
+        left.best = left.weight;
     }
-    while next < 24 && top < stop && top < all {
+    while left.at < 24 && left.best < left.stop && left.best < left.reach {
+        let at = left.at;
         // The remainder costs nothing, and below 32 is all that `has` asks: a candidate is below n anyway.
-        let k = (columns[ORDER][next] % 32) as usize;
-        next += 1;
-        if mask::has(left, k) {
-            left = mask::remove(left, k);
+        let k = (columns[ORDER][at] % 32) as usize;
+        left.at = at + 1;
+        if mask::has(left.candidates, k) {
+            left.candidates = mask::remove(left.candidates, k);
             let taken = take(
                 timing,
                 columns,
                 weights,
                 n,
-                on,
-                k,
-                next,
                 left,
-                space,
-                spare,
-                weight,
-                all,
-                stop,
-                top,
+                k,
                 mode,
                 list,
                 listed,
                 known,
             );
-            top = taken.most;
+            left.best = taken.most;
             listed = taken.count;
-            all -= wide(weights[k]);
+            left.reach -= wide(weights[k]);
         }
     }
-    if top < stop && top < all {
-        top = all;
+    if left.best < left.stop && left.best < left.reach {
+        left.best = left.reach;
     }
     Packed {
-        most: top,
+        most: left.best,
         count: listed,
     }
 }

@@ -4,28 +4,21 @@ use mathlib.Core.Bool.{Bool, _&&_}
 use mathlib.Core.List.{List}
 use Prim.Native.Nat.{ℕ, zero, suc, _+_, _*_, _≤_, _<_}
 use native.Mathlib.Omega.{arith}
-use native.Mathlib.Nat.{add-suc, add-zero, le-dest}
 use borrow.Author.Tests.{lt-ltb}
 use lib.Bits.{bitAnd}
 use lib.Dec.{T, ltb, lt→ltb, ltb→lt}
 use lib.ListN.{getD}
-use Rattle.finite.specs.Finite.{only, sumTo}
+use Rattle.finite.specs.Finite.{only}
 use Rattle.finite.proofs.Sum.{sum-ext}
-use Rattle.mask.specs.Mask.{has, below, Subset}
-use Rattle.mask.proofs.Laws.{below-has, has-and, has-mask, subset-below}
+use Rattle.mask.specs.Mask.{has, below, Subset, sumOver}
+use Rattle.mask.proofs.Laws.{below-has, has-below, has-and, has-mask, subset-below, sum-wider}
 use Rattle.schedule.specs.Periodic.{Valid, Constrained, LateSet}
 use Rattle.schedule.specs.Response.{ceil, share, demand, response}
-use Rattle.schedule.specs.Arrays.{InLimits, SmallShares, higherThan, sharesOf, tasksOf, workRow, periodRow, deadlineRow, priorityRow, higherRow}
+use Rattle.schedule.specs.Arrays.{InLimits, SmallShares, higherThan, shareOf, sharesOf, tasksOf, workRow, periodRow, deadlineRow, priorityRow, higherRow}
 use Rattle.mask.proofs.Tests.{and-left, and-right}
-use Rattle.schedule.proofs.Only.{only-in, only-out}
+use Rattle.schedule.proofs.Only.{only-in}
 use Rattle.schedule.proofs.LateSets.{late-set}
 use Rattle.schedule.proofs.Tabulate.{getD-tabulate}
-
--- a sum whose later terms are 0
-sum-part : (n k : ℕ) (f : ℕ → ℕ) → ((j : ℕ) → n ≤ j → f j ≡ 0) → sumTo (n + k) f ≡ sumTo n f
-unfolding sumTo
-sum-part n zero f e = rw add-zero refl
-sum-part n (suc k) f e = rw add-suc (omega (arith, sum-part n k f e, e (n + k) (omega arith)))
 
 module _ {n : ℕ} {rows : List (List ℕ)} {set : ℕ} (a : InLimits n rows set) where
   work-in-period : (i : ℕ) → i < n → getD (workRow rows) i 0 ≤ getD (periodRow rows) i 0
@@ -98,16 +91,15 @@ module _ {n : ℕ} {rows : List (List ℕ)} {set : ℕ} (a : InLimits n rows set
 
   pub demand-of : (i x : ℕ) {own rest : ℕ} → i < n → own ≡ getD (workRow rows) i 0 → rest ≡ sharesOf rows (bitAnd set (getD (higherRow rows) i 0)) x
       → own + rest ≡ demand (tasksOf n rows) (has set) i x
-  unfolding demand
+  unfolding demand sumOver
   demand-of i x l own rest =
-      let k = le-dest (a .few) in
-      ap₂ _+_ own (rest ∙ rw (k .1) at (sum-part n (k .0) term later) ∙ sum-ext n term (share (tasksOf n rows) (has set) i x) here)
+      ap₂ _+_ own (rest ∙ sum-wider n 24 others (shareOf rows x) (a .few) (has-below n others (others-below i l)) ∙ sum-ext n term (share (tasksOf n rows) (has set) i x) here)
     where
-      term : ℕ → ℕ
-      term j = only (has (bitAnd set (getD (higherRow rows) i 0)) j) (ceil x (getD (periodRow rows) j 0) * getD (workRow rows) j 0)
+      others : ℕ
+      others = bitAnd set (getD (higherRow rows) i 0)
 
-      later : (j : ℕ) → n ≤ j → term j ≡ 0
-      later j h = only-out (has (bitAnd set (getD (higherRow rows) i 0)) j) (ceil x (getD (periodRow rows) j 0) * getD (workRow rows) j 0) (λ u. omega (arith, others-below i l j u))
+      term : ℕ → ℕ
+      term j = only (has others j) (shareOf rows x j)
 
       here : (j : ℕ) → j < n → term j ≡ share (tasksOf n rows) (has set) i x j
       here j h = rw (others-has i l j, lt-ltb j n h) refl

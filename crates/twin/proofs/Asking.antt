@@ -6,10 +6,8 @@ use Prim.Native.Nat.{ℕ, _<_}
 use native.Mathlib.Omega.{arith}
 use lib.Dec.{T}
 use lib.ListN.{getD}
-use Rattle.finite.specs.Finite.{only}
-use Rattle.finite.proofs.Sum.{sum-ext}
-use Rattle.mask.specs.Mask.{has, below}
-use Rattle.mask.proofs.Laws.{has-below}
+use Rattle.mask.specs.Mask.{below, sumOver}
+use Rattle.mask.proofs.Laws.{has-below, sum-same}
 use Rattle.table.specs.declared.Table.{Table}
 use Rattle.schedule.specs.Arrays.{Says}
 use Rattle.rules.specs.Sets.{memoryOf, loadOf}
@@ -20,7 +18,7 @@ use Rattle.partial.specs.declared.Sizes.{Sizes}
 use Rattle.partial.specs.Partial.{Lent, Fits}
 use Rattle.partial.proofs.OneMore.{work}
 use Rattle.twin.specs.Twin.{SameResidence, Alike, Interchangeable}
-use Rattle.twin.specs.Asks.{Asks, total, SaysAlike}
+use Rattle.twin.specs.Asks.{Asks, SaysAlike}
 
 -- a caller that holds the columns of the rules
 pub asks : {t : Table} {sizes : Sizes} {columns links : List (List ℕ)} {s : State} {p : ℕ}
@@ -54,31 +52,29 @@ module _ {t : Table} {columns : List (List ℕ)} {s : State} {p : ℕ} (w : Asks
   open-low = has-below 24 (s .left) (λ k u. omega (arith, w .fits .open-task k u .0, w .sound .tasks .most))
 
   -- the sums of the lent columns are those of the table
-  total-memory : total (t .tasks .count) (memoryRow columns) (s .left) ≡ memoryOf (t .tasks) (s .left)
-  unfolding memoryOf
-  total-memory = rw (w .same-memory) refl
+  sum-memory : sumOver (t .tasks .count) (s .left) (λ k. getD (memoryRow columns) k 0) ≡ memoryOf (t .tasks) (s .left)
+  unfolding memoryOf sumOver
+  sum-memory = rw (w .same-memory) refl
 
-  total-load : total (t .tasks .count) (loadRow columns) (s .left) ≡ loadOf (t .tasks) (t .hyperperiod) (s .left)
-  unfolding loadOf
-  total-load =
-      sum-ext (t .tasks .count) (λ k. only (has (s .left) k) (getD (loadRow columns) k 0)) (λ k. only (has (s .left) k) (work t k))
-      (λ k l. rw (w .same-loads, loads-get t (w .sound) k l) refl)
+  sum-load : sumOver (t .tasks .count) (s .left) (λ k. getD (loadRow columns) k 0) ≡ loadOf (t .tasks) (t .hyperperiod) (s .left)
+  unfolding loadOf sumOver
+  sum-load = sum-same (t .tasks .count) (s .left) (λ k. getD (loadRow columns) k 0) (work t) (λ k l u. rw (w .same-loads, loads-get t (w .sound) k l) refl)
 
   -- the code's answer on the memory of p and q, and on their load
   module _ (q : ℕ) {r : Bool} where
     module _ (x : SaysAlike r (memoryRow columns) (s .left) (getD (s .memory) q 0) (getD (s .memory) p 0)) where
       pub memory-yes : r ≡ true → Alike (memoryOf (t .tasks) (s .left)) (getD (s .memory) q 0) (getD (s .memory) p 0)
-      memory-yes e = rw total-memory at (says-yes r _ (x (t .tasks .count) open-below) e)
+      memory-yes e = rw sum-memory at (says-yes r _ (x (t .tasks .count) open-below) e)
 
       pub memory-no : r ≡ false → Interchangeable t s q p → ⊥
-      memory-no e i = says-no r _ (x (t .tasks .count) open-below) e (rw total-memory (i .memory))
+      memory-no e i = says-no r _ (x (t .tasks .count) open-below) e (rw sum-memory (i .memory))
 
     module _ (x : SaysAlike r (loadRow columns) (s .left) (getD (s .load) q 0) (getD (s .load) p 0)) where
       pub load-yes : r ≡ true → Alike (loadOf (t .tasks) (t .hyperperiod) (s .left)) (getD (s .load) q 0) (getD (s .load) p 0)
-      load-yes e = rw total-load at (says-yes r _ (x (t .tasks .count) open-below) e)
+      load-yes e = rw sum-load at (says-yes r _ (x (t .tasks .count) open-below) e)
 
       pub load-no : r ≡ false → Interchangeable t s q p → ⊥
-      load-no e i = says-no r _ (x (t .tasks .count) open-below) e (rw total-load (i .load))
+      load-no e i = says-no r _ (x (t .tasks .count) open-below) e (rw sum-load (i .load))
 
   -- where all else is the same, the residences decide
   pub residence-says : {q : ℕ} → q < p → getD (s .on) q 0 ≡ 0 → getD (s .on) p 0 ≡ 0

@@ -5,8 +5,7 @@ use mathlib.Core.List.{List}
 use Prim.Native.Nat.{ℕ, _<_}
 use lib.Dec.{T}
 use lib.ListN.{getD}
-use Rattle.finite.specs.Finite.{only, sumTo}
-use Rattle.mask.specs.Mask.{has, below}
+use Rattle.mask.specs.Mask.{below, sumOver}
 use Rattle.table.specs.declared.Table.{Table}
 use Rattle.table.specs.Sound.{Sound}
 use Rattle.schedule.specs.Arrays.{Says}
@@ -24,10 +23,6 @@ pub record Asks (t : Table) (columns : List (List ℕ)) (s : State) (p : ℕ) : 
   pub fits : Fits t s
   pub known : p < t .processors .count
 
--- the sum of a column over the tasks of a set, of n tasks
-abbrev pub total : ℕ → List ℕ → ℕ → ℕ
-total n column set = sumTo n (λ k. only (has set k) (getD column k 0))
-
 -- the answer r on two rooms is right of the column's sum over the set, among any n tasks that hold it
 abbrev pub SaysAlike : Bool → List ℕ → ℕ → ℕ → ℕ → Type 0
-SaysAlike r column set a b = (n : ℕ) → T (below n set) → Says r (Alike (total n column set) a b)
+SaysAlike r column set a b = (n : ℕ) → T (below n set) → Says r (Alike (sumOver n set (λ k. getD column k 0)) a b)

@@ -3,11 +3,11 @@ ghost use mathlib.Core.Path.{_≡_};
 ghost use Prim.Native.Nat.{ℕ, _<_, min};
 ghost use lib.Dec.{T, leb};
 ghost use lib.ListN.{getD};
-ghost use Rattle.mask.specs.Mask.{below};
+ghost use Rattle.mask.specs.Mask.{below, sumOver};
 ghost use Rattle.table.specs.declared.Table.{Table};
 ghost use Rattle.schedule.specs.Arrays.{Says};
 ghost use Rattle.twin.specs.Twin.{SameResidence, Interchangeable, LowestTwin};
-ghost use Rattle.twin.specs.Asks.{Asks, total, SaysAlike};
+ghost use Rattle.twin.specs.Asks.{Asks, SaysAlike};
 use columns::Columns;
 use columns::LOAD;
 use columns::MEMORY;
@@ -28,7 +28,7 @@ fn lesser(a: u64, b: u64) -> u64
 // Whether what all tasks in the set need, by the row, fits the room; left at the first that does not.
 fn ample(row: &[u32; 24], set: u32, room: u64) -> bool
     requires { ⌜ T (below 24 set) ⌝ }
-    ensures { λ r. ⌜ ((n : ℕ) → T (below n set) → r ≡ leb (total n (now (row .entry)) set) room) ⌝ }
+    ensures { λ r. ⌜ ((n : ℕ) → T (below n set) → r ≡ leb (sumOver n set (λ k. getD (now (row .entry)) k 0)) room) ⌝ }
 {
     let mut free = room;
     let mut rest = set;

@@ -11,9 +11,9 @@ use Rattle.finite.specs.Finite.{only, sumTo}
 use Rattle.finite.proofs.Some.{or-left, or-right, or-either}
 use Rattle.finite.proofs.Sum.{sum-ext, sum-add, sum-zero, sum-at}
 use Rattle.finite.proofs.Only.{only-out, sum-either}
-use Rattle.mask.specs.Mask.{has, maskOf}
+use Rattle.mask.specs.Mask.{has, maskOf, sumOver}
 use Rattle.mask.proofs.Tests.{same-test, and-both, and-left, and-right}
-use Rattle.mask.proofs.Laws.{has-mask}
+use Rattle.mask.proofs.Laws.{has-mask, sum-same}
 use Rattle.table.specs.declared.Table.{Table}
 use Rattle.table.specs.Sound.{Sound}
 use Rattle.rules.specs.Placement.{placed}
@@ -65,17 +65,16 @@ module _ {t : Table} {s : State} {B : (ℕ → Bool) → Type 0} {q : List ℕ} 
       ∙ sum-ext (t .tasks .count) _ _ (λ k l. ap (λ (b : Bool). only b (g k)) (all-there k))
 
   memory-left : weightOf (t .tasks .count) (t .tasks .memory) (openOn (t .tasks .count) s q p) ≤ getD (s .memory) p 0
-  unfolding weightOf memoryOn memoryBroken
+  unfolding sumOver memoryOn memoryBroken
   memory-left =
       omega (arith, f .memory p low, sums (λ k. getD (t .tasks .memory) k 0), kept-le (getD (t .processors .memory) p 0) (memoryOn t (placed q) p) (w .keeps .memory p low))
 
   load-left : weightOf (t .tasks .count) (loadsOf t) (openOn (t .tasks .count) s q p) ≤ getD (s .load) p 0
-  unfolding weightOf loadOn utilisationBroken
+  unfolding sumOver loadOn utilisationBroken
   load-left =
       let g : ℕ → ℕ = λ k. getD (t .tasks .c) k 0 * t .hyperperiod / getD (t .tasks .t) k 0 in
       let y : ℕ = getD (t .processors .limit) p 0 * t .hyperperiod in
-      let e = sum-ext (t .tasks .count) (λ k. only (has (openOn (t .tasks .count) s q p) k) (getD (loadsOf t) k 0)) (λ k. only (has (openOn (t .tasks .count) s q p) k) (g k))
-      (λ k l. ap (only (has (openOn (t .tasks .count) s q p) k)) (loads-get t h k l)) in
+      let e = sum-same (t .tasks .count) (openOn (t .tasks .count) s q p) (λ k. getD (loadsOf t) k 0) g (λ k l u. loads-get t h k l) in
       rw e (spare-of (getD (s .load) p 0) (loadOn t (standing (s .on)) p) (sumTo (t .tasks .count) (λ k. only (has (openOn (t .tasks .count) s q p) k) (g k))) (loadOn t (placed q) p) y (f .load p low)
       (kept-le y (1000 * loadOn t (placed q) p) (w .keeps .utilisation p low)) (sums g))
 
@@ -102,7 +101,7 @@ sum-swap (suc m) n f = omega (arith, sum-swap m n f, sum-add n (λ k. sumTo m (�
 
 pub open-sum : {t : Table} (s : State) {q : List ℕ} → PlacementOf t q → (weights : List ℕ)
     → sumTo (t .processors .count) (λ p. weightOf (t .tasks .count) weights (openOn (t .tasks .count) s q p)) ≡ weightOf (t .tasks .count) weights (s .left)
-unfolding weightOf
+unfolding sumOver
 open-sum {t} s {q} w weights = sum-swap m n (λ p k. only (has (openOn n s q p) k) (getD weights k 0)) ∙ sum-ext n _ _ at
   where
     n : ℕ

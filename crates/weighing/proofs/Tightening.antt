@@ -34,6 +34,7 @@ use Rattle.offer.specs.Offer.{Fair, Eligible, Choices}
 use Rattle.offer.proofs.Meeting.{met-among}
 use Rattle.offer.proofs.Choosing.{choice-map, eligible-below}
 use Rattle.offer.proofs.Fairness.{refuted-fair}
+use Rattle.packing.specs.declared.Pack.{Pack}
 use Rattle.packing.specs.declared.Packed.{Packed}
 use Rattle.packing.specs.Packing.{weightOf, Takes, PackedAs}
 use Rattle.packing.proofs.Taking.{takes-map}
@@ -68,6 +69,20 @@ tops-start {t} l f el small tops = record {
       (λ e. rw (e, l .same-loads) (j .takes .enough-load)) (λ e. rw (e, l .same-memory) (j .takes .enough-memory));
 }
 
+-- what the packing begins with for p
+abbrev packOf : State → List ℕ → List ℕ → ℕ → ℕ → Pack
+packOf s sets tops p reach = record {
+  on = getD (s .on) p 0;
+  candidates = getD sets p 0;
+  at = 0;
+  space = getD (s .memory) p 0;
+  spare = getD (s .load) p 0;
+  weight = 0;
+  reach = reach;
+  stop = getD tops p 0;
+  best = 0;
+}
+
 module _ {t : Table} {s : State} {listing : Bool} {places : ℕ} {weights sets tops list : List ℕ} {count : ℕ} (o : Tops t s (Bad (tasksIn t) listing list count) weights sets tops) {p : ℕ} (low : p < t .processors .count) where
   -- the bound of a processor that covers p
   pub tight-like : {r most : ℕ} → Ledger (tasksIn t) places list count → r < t .processors .count → Covers s sets r p
@@ -93,8 +108,8 @@ module _ {t : Table} {s : State} {listing : Bool} {places : ℕ} {weights sets t
   }
 
   -- or by packing
-  pub tight-packed : Sound t → Fits t s → Eligible t s p (getD sets p 0) → {new : List ℕ} (r : Packed) {most : ℕ}
-      → PackedAs (t .tasks .count) (tasksIn t) listing places (t .tasks .memory) (exclusionsOf t) (loadsOf t) weights (getD (s .on) p 0) (getD sets p 0) (getD (s .memory) p 0) (getD (s .load) p 0) 0 (getD tops p 0) 0 list count new r
+  pub tight-packed : Sound t → Fits t s → Eligible t s p (getD sets p 0) → {reach : ℕ} {new : List ℕ} (r : Packed) {most : ℕ}
+      → PackedAs (t .tasks .count) (tasksIn t) listing places (t .tasks .memory) (exclusionsOf t) (loadsOf t) weights (packOf s sets tops p reach) list count new r
       → (most ≤ getD tops p 0) × (most ≤ r .most) × ((most ≡ getD tops p 0) ⊎ (most ≡ r .most)) → TightAs t listing places s weights sets tops p list count new (record { most = most; count = r .count })
   tight-packed h f e r a m = record {
     ledger = a .ledger;
@@ -122,9 +137,9 @@ light-of l (suc (suc (suc w))) h k = absurd (omega arith)
 
 -- what the packing leaves, by the table's columns
 pub packed-as : {t : Table} {sizes : Sizes} {timing columns links : List (List ℕ)} → Lends t sizes timing columns links
-    → {listing : Bool} {places : ℕ} {weights : List ℕ} {on all space spare stop : ℕ} {old new : List ℕ} {before : ℕ} {r : Packed}
-    → PackedAs (sizes .tasks) (tasksOf (sizes .tasks) timing) listing places (memoryRow columns) (exclusionRow columns) (loadRow columns) weights on all space spare 0 stop 0 old before new r
-    → PackedAs (t .tasks .count) (tasksIn t) listing places (t .tasks .memory) (exclusionsOf t) (loadsOf t) weights on all space spare 0 stop 0 old before new r
+    → {listing : Bool} {places : ℕ} {weights : List ℕ} {pack : Pack} {old new : List ℕ} {before : ℕ} {r : Packed}
+    → PackedAs (sizes .tasks) (tasksOf (sizes .tasks) timing) listing places (memoryRow columns) (exclusionRow columns) (loadRow columns) weights pack old before new r
+    → PackedAs (t .tasks .count) (tasksIn t) listing places (t .tasks .memory) (exclusionsOf t) (loadsOf t) weights pack old before new r
 packed-as l a = rw (lent-tasks l, l .rules .tasks, l .rules .same-memory, l .rules .same-exclusions, l .rules .same-loads) at a
 
 -- ---- the loop over the processors

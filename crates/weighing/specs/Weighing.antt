@@ -1,9 +1,9 @@
 -- The weight bound: how much of the open tasks' weight each processor can take at most.
 use mathlib.Core.Path.{_≡_}
-use mathlib.Core.Bool.{Bool, true, false}
+use mathlib.Core.Bool.{Bool}
 use mathlib.Core.List.{List}
 use Prim.Native.Nat.{ℕ, _≤_, _<_}
-use lib.Dec.{T, ltb}
+use lib.Dec.{T}
 use lib.ListN.{getD}
 use Rattle.mask.specs.Mask.{below, Subset}
 use Rattle.table.specs.declared.Table.{Table}
@@ -17,10 +17,6 @@ use Rattle.region.specs.Region.{Within, Met}
 use Rattle.offer.specs.Offer.{Eligible}
 use Rattle.packing.specs.declared.Packed.{Packed}
 use Rattle.packing.specs.Packing.{weightOf, Takes}
-
--- the lower of two numbers
-abbrev pub lowerOf : ℕ → ℕ → ℕ
-lowerOf a b = elim (ltb a b) [ true ↦ a | false ↦ b ]
 
 -- small numbers, so that sums of them fit
 abbrev pub Light : List ℕ → Type 0

@@ -1,6 +1,6 @@
 // The weight bound: the open tasks weigh more than all processors together can take.
 ghost use mathlib.Core.Path.{_≡_};
-ghost use Prim.Native.Nat.{ℕ, _≤_, _<_};
+ghost use Prim.Native.Nat.{ℕ, _≤_, _<_, min};
 ghost use lib.Dec.{T};
 ghost use lib.ListN.{length, getD};
 ghost use mathlib.Core.Bool.{false};
@@ -17,7 +17,7 @@ ghost use Rattle.offer.specs.Offer.{Choices};
 ghost use Rattle.packing.specs.Packing.{weightOf};
 ghost use Rattle.memo.specs.Memo.{Learnt};
 ghost use Rattle.weighing.specs.Bound.{BoundedAs};
-ghost use Rattle.weighing.specs.Weighing.{lowerOf, Light, TopAs, Covers, Topped, TightAs};
+ghost use Rattle.weighing.specs.Weighing.{Light, TopAs, Covers, Topped, TightAs};
 use columns::Columns;
 use columns::LOAD;
 use columns::Messages;
@@ -25,6 +25,7 @@ use known::Known;
 use ledger::Mode;
 use memo::Memo;
 use numbers::wide;
+use packing::Pack;
 use packing::Packed;
 use partial::Sizes;
 use partial::State;
@@ -38,7 +39,7 @@ pub struct Bounded {
 
 // The lower of two numbers.
 fn lower(a: u64, b: u64) -> u64
-    ensures { λ r. ⌜ r ≡ lowerOf a b ⌝ }
+    ensures { λ r. ⌜ r ≡ min a b ⌝ }
 {
     if a < b {
         return a;
@@ -162,20 +163,23 @@ fn pack<'a>(
     let most = tops[p];
     let set = sets[p];
     let reach = weight_of(&columns[LOAD + row], set);
+    let pack = Pack {
+        on: s.on[p],
+        candidates: set,
+        at: 0,
+        space: s.memory[p],
+        spare: s.load[p],
+        weight: 0,
+        reach,
+        stop: most,
+        best: 0,
+    };
     let packed = packing::most(
         timing,
         columns,
         &columns[LOAD + row],
         sizes.tasks,
-        s.on[p],
-        0,
-        set,
-        s.memory[p],
-        s.load[p],
-        0,
-        reach,
-        most,
-        0,
+        pack,
         mode,
         list,
         count,

@@ -15,7 +15,7 @@ abbrev μ-loop : tie.MeasureT-loop
 μ-loop row set room free₀ rest₀ free rest = rest
 
 low : (c : tie.After-lowest Inv-loop μ-loop) → c .lowest .result < 24
-low c = below-has 24 _ (c .before .before .before .pre) _ (visit-member (c .before .before .loop .inv .visit) (search needs) (c .lowest .ensures))
+low c = below-has 24 _ (c .before .before .before .pre) _ (visit-member (c .before .before .loop .inv .taken .visit) (search needs) (c .lowest .ensures))
 
 pub ample-spec : {M : Type 1} → statement M
 ample-spec =
@@ -30,7 +30,7 @@ ample-spec =
     (λ c κs. search needs)  -- wide-requires
     (λ c. let l = c .before .before .before in taking-over (l .before .before .loop .inv) (search needs) (l .lowest .ensures) (c .before .wide .ensures .0) (c .if1 .taken))  -- returns
     (λ c κs. omega (arith, low (c .before .before .before)))  -- remove-requires
-    (λ c. let l = c .before .before .before .before in visit-less (l .before .before .loop .inv .visit) (search needs) (l .lowest .ensures) (c .remove .ensures))  -- loop-less
+    (λ c. let l = c .before .before .before .before in visit-less (l .before .before .loop .inv .taken .visit) (search needs) (l .lowest .ensures) (c .remove .ensures))  -- loop-less
     (λ c.
     let l = c .before .before .before .before in
     taking-next (l .before .before .loop .inv) (search needs) (l .lowest .ensures) (c .before .before .wide .ensures .0) (c .remove .ensures) (c .before .if1 .left))  -- loop-again
