@@ -3,7 +3,32 @@ use mathlib.Core.Path.{_≡_, refl, sym, ap, ap₂, subst, subst₂, _∙_}
 use mathlib.Core.Logic.{_⊎_, inl, inr}
 use mathlib.Core.Bool.{Bool}
 use Prim.Native.Nat.{ℕ, zero, suc, _+_, _*_, _%_, _/_, _≤_, _<_, _∣_}
-use native.Mathlib.Nat.{mul-comm, mul-assoc, mul-add, mul-pos, mod-lt, mod-add-div, eq-zero-or-pos, not-suc-le-zero, mul-div-cancel', div-mul-cancel, le-of-dvd, one-dvd, pos-of-dvd-of-pos, dvd-trans, dvd-antisymm, dvd-mul-left, dvd-mul-right, dvd-mul-right-of-dvd, dvd-add-iff-left, dvd-of-mod-eq-zero, mod-eq-zero-of-dvd, dvd-of-mul-dvd-mul-left, dvd-of-mul-dvd-mul-right, mul-dvd-mul-left}
+use native.Mathlib.Nat.{
+  mul-comm,
+  mul-assoc,
+  mul-add,
+  mul-pos,
+  mod-lt,
+  mod-add-div,
+  eq-zero-or-pos,
+  not-suc-le-zero,
+  mul-div-cancel',
+  div-mul-cancel,
+  le-of-dvd,
+  one-dvd,
+  pos-of-dvd-of-pos,
+  dvd-trans,
+  dvd-antisymm,
+  dvd-mul-left,
+  dvd-mul-right,
+  dvd-mul-right-of-dvd,
+  dvd-add-iff-left,
+  dvd-of-mod-eq-zero,
+  mod-eq-zero-of-dvd,
+  dvd-of-mul-dvd-mul-left,
+  dvd-of-mul-dvd-mul-right,
+  mul-dvd-mul-left,
+}
 use native.Mathlib.Omega.{arith}
 use native.Mathlib.Decide.{ℕ-discrete}
 use lib.Dec.{T, eqb, eqb→eq}

@@ -14,6 +14,10 @@ module _ {t : Table} (s : Sound t) (j : ℕ) (l : j < t .tasks .count) where
   pub some-period : 1 ≤ getD (t .tasks .t) j 0
   some-period = omega (arith, s .tasks .works j l, work-in-period)
 
+  -- no deadline is 0
+  pub some-deadline : 1 ≤ getD (t .tasks .d) j 0
+  some-deadline = omega (arith, s .tasks .works j l, s .tasks .c-d j l)
+
   -- no deadline is beyond 1,000,000 ticks
   pub deadline-most : getD (t .tasks .d) j 0 ≤ 1000000
   deadline-most = omega (arith, s .tasks .d-t j l, s .tasks .ticks j l)

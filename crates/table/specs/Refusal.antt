@@ -1,7 +1,23 @@
 -- 01's numbers of the causes ("Refused input").
 use Prim.Native.Nat.{ℕ}
 use Rattle.verdict.specs.declared.Cause.{Cause}
-use Rattle.verdict.specs.declared.Cause.the-variants.{Cut, UnknownMark, OutOfOrder, TooMany, OutOfRange, NotInFile, PriorityUsed, PeriodsDiffer, MessageRepeated, HyperperiodTooLarge, Missing, ShortAnswer, PlacementLength, UnknownProcessor, NoConflictMask}
+use Rattle.verdict.specs.declared.Cause.the-variants.{
+  Cut,
+  UnknownMark,
+  OutOfOrder,
+  TooMany,
+  OutOfRange,
+  NotInFile,
+  PriorityUsed,
+  PeriodsDiffer,
+  MessageRepeated,
+  HyperperiodTooLarge,
+  Missing,
+  ShortAnswer,
+  PlacementLength,
+  UnknownProcessor,
+  NoConflictMask,
+}
 
 -- the number of a cause
 abbrev pub causeNumber : Cause → ℕ

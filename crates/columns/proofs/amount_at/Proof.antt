@@ -4,18 +4,18 @@ use native.Mathlib.Omega.{arith}
 use borrow.Author.Needs.{needs}
 use borrow.Author.Tests.{lt-ltb, le-ltb}
 use lib.ListN.{getD}
-use Rattle.table.proofs.Times.{some-period}
+use Rattle.table.proofs.Times.{some-period, some-deadline}
 use Rattle.rules.proofs.Bounds.{amount-bound}
 use Rattle.columns.proofs.amount_at.Statement.{statement}
 use Rattle.columns.proofs.amount_at.Tie as tie
 
--- the message's sender is in the table, and has a period
-sender : (c : tie.Else1) → let a = c .before .before .args in let i = getD (a .t .messages .sender) (a .j) 0 in (i < 24) × (1 ≤ getD (a .t .tasks .t) i 0)
+-- the message's sender is in the table, and neither its period nor its deadline is 0: so a division by the deadline is refused for its answer
+sender : (c : tie.Else1) → let a = c .before .before .args in let i = getD (a .t .messages .sender) (a .j) 0 in (i < 24) × (1 ≤ getD (a .t .tasks .t) i 0) × (1 ≤ getD (a .t .tasks .d) i 0)
 sender c =
     let s = c .before .before .pre in
     let i = getD (c .before .before .args .t .messages .sender) (c .before .before .args .j) 0 in
     let l = s .messages .from-task (c .before .before .args .j) (c .if1 .left) in
-    (omega (arith, s .tasks .most), some-period s i l)
+    (omega (arith, s .tasks .most), some-period s i l, some-deadline s i l)
 
 pub amount-at-spec : {M : Type 1} → statement M
 amount-at-spec =

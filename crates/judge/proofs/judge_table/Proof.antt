@@ -31,4 +31,13 @@ judge-table-spec =
     (λ c κs. search needs)  -- judgement-by-requires
     (λ c.
     let e = c .before .before .before .before in
-    rw (eq-eqb _ _ (e .before .if1 .left), ← (e .before .before .first-unknown .ensures), le-ltb _ _ (e .if2 .left), c .judgement-by .ensures, c .before .first-broken .ensures, c .before .before .responses-of .ensures, c .before .before .before .sets-of .ensures, sets-placed _ (placeable-of (start e .pre) (whole e)))))  -- returns-3
+    rw (
+      eq-eqb _ _ (e .before .if1 .left),
+      ← (e .before .before .first-unknown .ensures),
+      le-ltb _ _ (e .if2 .left),
+      c .judgement-by .ensures,
+      c .before .first-broken .ensures,
+      c .before .before .responses-of .ensures,
+      c .before .before .before .sets-of .ensures,
+      sets-placed _ (placeable-of (start e .pre) (whole e)),
+    )))  -- returns-3

@@ -17,7 +17,10 @@ read-spec =
     (tie.spec
     (λ c κs. search needs)  -- scan-requires
     (λ c. search needs)  -- enum-told
-    (λ c κs. let v = c .before .before .before in let w = scan-whole _ (sym (ap (λ (z : Scanned). z .outcome) (v .scan .ensures)) ∙ c .enum-told .given .1) in (rw (v .scan .ensures) (w .0 .reached), omega (arith, record-in (w .0 .reached) Network 0 (present _ (w .1) .0))))  -- table-of-requires
+    (λ c κs.
+    let v = c .before .before .before in
+    let w = scan-whole _ (sym (ap (λ (z : Scanned). z .outcome) (v .scan .ensures)) ∙ c .enum-told .given .1) in
+    (rw (v .scan .ensures) (w .0 .reached), omega (arith, record-in (w .0 .reached) Network 0 (present _ (w .1) .0))))  -- table-of-requires
     (λ c. search needs)  -- enum-told-2
     (λ c κs. search needs)  -- empty-requires
     (λ c. let v = c .before .before .before .before in simp (← (v .scan .ensures), c .before .enum-told .given .1, c .table-of .ensures))  -- returns

@@ -15,4 +15,12 @@ table-of-spec =
     (λ c κs. search needs)  -- groups-of-requires
     (λ c κs. search needs)  -- groups-of-requires-2
     (λ c κs. search needs)  -- messages-of-requires
-    (λ c. simp (c .before .before .before .before .before .word-at .ensures, c .before .before .before .before .processors-of .ensures, c .before .before .before .tasks-of .ensures, c .before .before .groups-of .ensures, c .before .groups-of2 .ensures, c .messages-of .ensures)))  -- returns
+    (λ c.
+    simp (
+      c .before .before .before .before .before .word-at .ensures,
+      c .before .before .before .before .processors-of .ensures,
+      c .before .before .before .tasks-of .ensures,
+      c .before .before .groups-of .ensures,
+      c .before .groups-of2 .ensures,
+      c .messages-of .ensures,
+    )))  -- returns

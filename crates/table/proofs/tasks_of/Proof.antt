@@ -20,4 +20,12 @@ tasks-of-spec =
     (λ c κs. search needs)  -- fill-requires-5
     (λ c. search needs)  -- slice-aggregate-fill-6
     (λ c κs. search needs)  -- fill-requires-6
-    (λ c. simp (c .before .before .before .before .before .before .before .before .before .before .before .before .before .before .before .before .fill .ensures, c .before .before .before .before .before .before .before .before .before .before .before .before .before .fill2 .ensures, c .before .before .before .before .before .before .before .before .before .before .fill3 .ensures, c .before .before .before .before .before .before .before .fill4 .ensures, c .before .before .before .before .fill5 .ensures, c .before .fill6 .ensures)))  -- returns
+    (λ c.
+    simp (
+      c .before .before .before .before .before .before .before .before .before .before .before .before .before .before .before .before .fill .ensures,
+      c .before .before .before .before .before .before .before .before .before .before .before .before .before .fill2 .ensures,
+      c .before .before .before .before .before .before .before .before .before .before .fill3 .ensures,
+      c .before .before .before .before .before .before .before .fill4 .ensures,
+      c .before .before .before .before .fill5 .ensures,
+      c .before .fill6 .ensures,
+    )))  -- returns

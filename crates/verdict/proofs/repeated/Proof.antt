@@ -46,9 +46,25 @@ repeated-spec =
     (λ c κs. search needs)  -- count-of-requires
     (λ c κs. search needs)  -- series-of-requires
     (λ c. (omega arith, c .before .before .half-at .ensures .0, below-none _))  -- loop-holds
-    (λ c κs. let s = c .before .before .before .before .before .before in room (s .pre .0) (s .args .kind) (c .before .loop .j) (c .before .before .series-of .ensures) (c .before .before .before .count-of .ensures) (c .loop-test .taken) .1)  -- place-in-requires
-    (λ c. omega (arith, c .place-in .ensures, let l = c .before in let s = l .before .before .before .before .before .before in room (s .pre .0) (s .args .kind) (l .before .loop .j) (l .before .before .series-of .ensures) (l .before .before .before .count-of .ensures) (l .loop-test .taken) .0))  -- add-half-at-2
-    (λ c κs. omega (arith, c .place-in .ensures, let l = c .before in let s = l .before .before .before .before .before .before in room (s .pre .0) (s .args .kind) (l .before .loop .j) (l .before .before .series-of .ensures) (l .before .before .before .count-of .ensures) (l .loop-test .taken) .0))  -- half-at-requires-2
+    (λ c κs.
+    let s = c .before .before .before .before .before .before in
+    room (s .pre .0) (s .args .kind) (c .before .loop .j) (c .before .before .series-of .ensures) (c .before .before .before .count-of .ensures) (c .loop-test .taken) .1)  -- place-in-requires
+    (λ c.
+    let l = c .before in
+    let s = l .before .before .before .before .before .before in
+    omega (
+      arith,
+      c .place-in .ensures,
+      room (s .pre .0) (s .args .kind) (l .before .loop .j) (l .before .before .series-of .ensures) (l .before .before .before .count-of .ensures) (l .loop-test .taken),
+    ))  -- add-half-at-2
+    (λ c κs.
+    let l = c .before in
+    let s = l .before .before .before .before .before .before in
+    omega (
+      arith,
+      c .place-in .ensures,
+      room (s .pre .0) (s .args .kind) (l .before .loop .j) (l .before .before .series-of .ensures) (l .before .before .before .count-of .ensures) (l .loop-test .taken),
+    ))  -- half-at-requires-2
     (λ c.
     let l = c .before .before .before in
     let e = rw (c .before .before .place-in .ensures, l .before .before .series-of .ensures) at (c .before .half-at2 .ensures .0) in

@@ -18,6 +18,32 @@ task-out-of-range-spec =
     (λ c κs. search needs)  -- word-at-requires-3
     (λ c. simp (← (c .before .before .before .word-at .ensures), ← (c .before .before .word-at2 .ensures), ← (c .before .word-at3 .ensures), lt-leb _ _ (c .if1 .taken)))  -- returns
     (λ c. simp (← (c .before .before .before .before .word-at .ensures), ← (c .before .before .before .word-at2 .ensures), ← (c .before .before .word-at3 .ensures), le-leb _ _ (c .before .if1 .left), lt-leb _ _ (c .if2 .taken)))  -- returns-2
-    (λ c. simp (← (c .before .before .before .before .before .word-at .ensures), ← (c .before .before .before .before .word-at2 .ensures), ← (c .before .before .before .word-at3 .ensures), le-leb _ _ (c .before .before .if1 .left), le-leb _ _ (c .before .if2 .left), lt-leb _ _ (c .if3 .taken)))  -- returns-3
-    (λ c. simp (← (c .before .before .before .before .before .before .word-at .ensures), ← (c .before .before .before .before .before .word-at2 .ensures), ← (c .before .before .before .before .word-at3 .ensures), le-leb _ _ (c .before .before .before .if1 .left), le-leb _ _ (c .before .before .if2 .left), le-leb _ _ (c .before .if3 .left), lt-leb _ _ (c .if4 .taken)))  -- returns-4
-    (λ c. simp (← (c .before .before .before .before .before .before .word-at .ensures), ← (c .before .before .before .before .before .word-at2 .ensures), ← (c .before .before .before .before .word-at3 .ensures), le-leb _ _ (c .before .before .before .if1 .left), le-leb _ _ (c .before .before .if2 .left), le-leb _ _ (c .before .if3 .left), le-leb _ _ (c .if4 .left))))  -- returns-5
+    (λ c.
+    simp (
+      ← (c .before .before .before .before .before .word-at .ensures),
+      ← (c .before .before .before .before .word-at2 .ensures),
+      ← (c .before .before .before .word-at3 .ensures),
+      le-leb _ _ (c .before .before .if1 .left),
+      le-leb _ _ (c .before .if2 .left),
+      lt-leb _ _ (c .if3 .taken),
+    ))  -- returns-3
+    (λ c.
+    simp (
+      ← (c .before .before .before .before .before .before .word-at .ensures),
+      ← (c .before .before .before .before .before .word-at2 .ensures),
+      ← (c .before .before .before .before .word-at3 .ensures),
+      le-leb _ _ (c .before .before .before .if1 .left),
+      le-leb _ _ (c .before .before .if2 .left),
+      le-leb _ _ (c .before .if3 .left),
+      lt-leb _ _ (c .if4 .taken),
+    ))  -- returns-4
+    (λ c.
+    simp (
+      ← (c .before .before .before .before .before .before .word-at .ensures),
+      ← (c .before .before .before .before .before .word-at2 .ensures),
+      ← (c .before .before .before .before .word-at3 .ensures),
+      le-leb _ _ (c .before .before .before .if1 .left),
+      le-leb _ _ (c .before .before .if2 .left),
+      le-leb _ _ (c .before .if3 .left),
+      le-leb _ _ (c .if4 .left),
+    )))  -- returns-5

@@ -19,5 +19,17 @@ verdict-at-spec =
     (λ c. search needs)  -- enum-known-mark
     (λ c κs. search needs)  -- record-verdict-requires
     (λ c. search needs)  -- enum-told
-    (λ c. let k = c .before .before .before .before in let s = k .before .before .before in let a = s .args in simp (le-ltb (length (a .file .now)) (a .at + 2) (omega (arith, s .pre .inside, k .before .if1 .left)), ← (k .kind-at .ensures), c .before .before .mark .given .1) (c .record-verdict .ensures))  -- returns-2
-    (λ c. let k = c .before .before in let s = k .before .before .before in let a = s .args in simp (le-ltb (length (a .file .now)) (a .at + 2) (omega (arith, s .pre .inside, k .before .if1 .left)), ← (k .kind-at .ensures), c .enum-told .given .1)))  -- returns-3
+    (λ c.
+    let k = c .before .before .before .before in
+    let s = k .before .before .before in
+    let a = s .args in
+    simp (
+      le-ltb (length (a .file .now)) (a .at + 2) (omega (arith, s .pre .inside, k .before .if1 .left)),
+      ← (k .kind-at .ensures),
+      c .before .before .mark .given .1,
+    ) (c .record-verdict .ensures))  -- returns-2
+    (λ c.
+    let k = c .before .before in
+    let s = k .before .before .before in
+    let a = s .args in
+    simp (le-ltb (length (a .file .now)) (a .at + 2) (omega (arith, s .pre .inside, k .before .if1 .left)), ← (k .kind-at .ensures), c .enum-told .given .1)))  -- returns-3
