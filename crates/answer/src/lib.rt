@@ -3,8 +3,8 @@ ghost use mathlib.Core.Path.{_≡_};
 ghost use mathlib.Core.List.{_++_};
 ghost use Prim.Native.Nat.{_+_, _*_, _≤_};
 ghost use lib.ListN.{length, take, drop};
-ghost use Rattle.wire.specs.Wire.{markBytes};
-ghost use Rattle.answer.specs.Answer.{foundHead, noneHead, endBytes, places, laid};
+ghost use Rattle.wire.specs.Wire.{markBytes, laid};
+ghost use Rattle.answer.specs.Answer.{foundHead, noneHead, endBytes, places};
 
 const AL: [u8; 2] = *b"AL";
 

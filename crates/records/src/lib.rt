@@ -4,7 +4,8 @@ ghost use Prim.Native.Nat.{_+_, _*_, _≤_};
 ghost use lib.ListN.{length};
 ghost use Rattle.finite.specs.Finite.{firstBelow};
 ghost use Rattle.mask.specs.Mask.{within};
-ghost use Rattle.answer.specs.Answer.{conflictBytes, laid, maskAt};
+ghost use Rattle.wire.specs.Wire.{laid};
+ghost use Rattle.answer.specs.Answer.{conflictBytes, maskAt};
 
 const NG: [u8; 2] = *b"NG";
 

@@ -5,7 +5,7 @@
 --     late-test       so a test tells whether a set is late
 --     late?           and it is decided
 --     late-within     a set that holds a late set is late
-use mathlib.Core.Path.{_≡_, refl, ap, subst, _∙_}
+use mathlib.Core.Path.{_≡_, refl, ap, _∙_}
 use mathlib.Core.Bool.{Bool, true, false, _&&_}
 use mathlib.Core.Logic.{_↔_}
 use Prim.Native.Nat.{ℕ, zero, suc, _+_, _*_, _/_, _%_, _≤_, _<_}
@@ -225,13 +225,6 @@ module _ (s : Tasks) (valid : Valid s) (on : ℕ → Bool) where
       go : (b : Bool) → Says b (LateSet s on) → Dec (LateSet s on)
       go true q = yes q
       go false q = no q
-
--- an answer's two sides
-pub late-yes : {s : Tasks} {on : ℕ → Bool} (b : Bool) → Says b (LateSet s on) → b ≡ true → LateSet s on
-late-yes {s} {on} b p e = subst (λ (x : Bool). Says x (LateSet s on)) e p
-
-pub late-no : {s : Tasks} {on : ℕ → Bool} (b : Bool) → Says b (LateSet s on) → b ≡ false → LateSet s on → ⊥
-late-no {s} {on} b p e = subst (λ (x : Bool). Says x (LateSet s on)) e p
 
 -- ---- a set within another
 

@@ -10,12 +10,13 @@ use native.Mathlib.Decide.{ℕ-discrete}
 use lib.ListN.{length, getD, length-set, getD-replicate}
 use lib.Seq.{getD-set-same, getD-set-other}
 use Rattle.finite.specs.Finite.{sumTo}
-use Rattle.finite.proofs.Sum.{sum-ext, sum-at}
+use Rattle.finite.proofs.Sum.{sum-ext, sum-at, sum-beyond}
 use Rattle.multiple.proofs.Laws.{lcm-pos}
 use Rattle.layout.specs.declared.Kind.{Kind}
 use Rattle.layout.specs.declared.Kind.the-variants.{Network, Processor, Task, CoResident, Exclusive, Message}
 use Rattle.layout.specs.declared.Progress.{Progress}
 use Rattle.layout.specs.Format.{row, size, count, extent, start, place, period}
+use Rattle.layout.proofs.Limits.{order-below}
 use Rattle.verdict.specs.Faults.{hyperperiodWith}
 use Rattle.verdict.specs.Reached.{Reached}
 use Rattle.verdict.proofs.Accepted.{Accepted}
@@ -34,14 +35,6 @@ kind-of Task = refl
 kind-of CoResident = refl
 kind-of Exclusive = refl
 kind-of Message = refl
-
-pub order-lt : (k : Kind) → row k .order < 6
-order-lt Network = omega arith
-order-lt Processor = omega arith
-order-lt Task = omega arith
-order-lt CoResident = omega arith
-order-lt Exclusive = omega arith
-order-lt Message = omega arith
 
 order-of : (i : ℕ) → i < 6 → row (getD kinds i Network) .order ≡ i
 order-of zero l = refl
@@ -67,11 +60,11 @@ versus k j = go (ℕ-discrete (row k .order) (row j .order))
 -- ---- the counts at the start, and with one record more
 
 pub no-records : (k : Kind) → count noRecords k ≡ 0
-no-records k = getD-replicate 6 (row k .order) 0 0 (order-lt k)
+no-records k = getD-replicate 6 (row k .order) 0 0 (order-below k)
 
 module _ (x : Progress) (k : Kind) (h : ℕ) where
   pub count-same : length (x .counts) ≡ 6 → count (withRecord x k h) k ≡ count x k + 1
-  count-same e = getD-set-same (x .counts) (row k .order) _ 0 (omega (arith, order-lt k))
+  count-same e = getD-set-same (x .counts) (row k .order) _ 0 (omega (arith, order-below k))
 
   pub count-other : (j : Kind) → row j .order ≢ row k .order → count (withRecord x k h) j ≡ count x j
   count-other j d = getD-set-other (x .counts) (row k .order) (row j .order) _ 0 d
@@ -95,21 +88,12 @@ all-sum : (x : Progress) → start x Message + extent x Message ≡ sumTo 6 (ext
 unfolding sumTo extentAt
 all-sum x = omega arith
 
-sum-beyond : (m n : ℕ) (f : ℕ → ℕ) → m ≤ n → ((i : ℕ) → m ≤ i → i < n → f i ≡ 0) → sumTo n f ≡ sumTo m f
-unfolding sumTo
-sum-beyond m zero f l z = let e : 0 ≡ m = omega arith in ap (λ (i : ℕ). sumTo i f) e
-sum-beyond m (suc n) f l z = go (ℕ-discrete (suc n) m) (λ (k : m ≤ n). sum-beyond m n f k (λ i p q. z i p (omega arith)))
-  where
-    go : Dec (suc n ≡ m) → (m ≤ n → sumTo n f ≡ sumTo m f) → sumTo (suc n) f ≡ sumTo m f
-    go (yes e) ih = ap (λ (i : ℕ). sumTo i f) e
-    go (no e) ih = omega (arith, z n (omega arith) (omega arith), ih (omega arith))
-
 -- the same counts before a kind, the same start
 pub start-agree : (x y : Progress) (k : Kind) → ((i : Kind) → row i .order < row k .order → count x i ≡ count y i) → start x k ≡ start y k
 unfolding extentAt
 start-agree x y k a =
     start-sum x k
-    ∙ sum-ext (row k .order) (extentAt x) (extentAt y) (λ i l. let j = getD kinds i Network in ap (λ (n : ℕ). size j * n) (a j (omega (arith, order-of i (omega (arith, order-lt k))))))
+    ∙ sum-ext (row k .order) (extentAt x) (extentAt y) (λ i l. let j = getD kinds i Network in ap (λ (n : ℕ). size j * n) (a j (omega (arith, order-of i (omega (arith, order-below k))))))
     ∙ sym (start-sum y k)
 
 -- behind the last record of a kind, where no later kind has one
@@ -119,7 +103,7 @@ unfolding sumTo extentAt
 place-last x k none =
     ap (λ (n : ℕ). n + extent x k) (start-sum x k)
     ∙ ap (λ (i : Kind). sumTo (row k .order) (extentAt x) + extent x i) (sym (kind-of k))
-    ∙ sym (sum-beyond (suc (row k .order)) 6 (extentAt x) (order-lt k) after)
+    ∙ sym (sum-beyond (suc (row k .order)) 6 (extentAt x) (order-below k) after)
     ∙ sym (all-sum x)
   where
     after : (i : ℕ) → suc (row k .order) ≤ i → i < 6 → extentAt x i ≡ 0
@@ -152,7 +136,7 @@ module _ {s : List ℕ} {at : ℕ} {x : Progress} (r : Reached s at x) where
   reached-next {k} a = record {
     counted = record { kinds = length-set (x .counts) (row k .order) _ ∙ r .counted .kinds; few = λ j. few j (versus j k) };
     inside = a .whole;
-    ends = ap (λ (n : ℕ). n + size k) (r .ends ∙ all-sum x) ∙ sym (sum-at 6 (extentAt y) (extentAt x) (row k .order) (size k) (order-lt k) elsewhere here) ∙ sym (all-sum y);
+    ends = ap (λ (n : ℕ). n + size k) (r .ends ∙ all-sum x) ∙ sym (sum-at 6 (extentAt y) (extentAt x) (row k .order) (size k) (order-below k) elsewhere here) ∙ sym (all-sum y);
     least = hyperperiod-bounds k a .0;
     most = hyperperiod-bounds k a .1;
   }

@@ -4,7 +4,7 @@ use Prim.Native.Nat.{_*_}
 use borrow.Author.Needs.{needs}
 use Rattle.wire.proofs.Laws.{record-length}
 use Rattle.answer.specs.Answer.{conflictBytes}
-use Rattle.answer.proofs.Laws.{laid-part}
+use Rattle.wire.proofs.Put.{laid-part}
 use Rattle.records.proofs.append.Statement.{statement}
 use Rattle.records.proofs.append.Tie as tie
 

@@ -47,19 +47,26 @@ load-on-spec =
     let l = c .before .before .before .before in
     let k = l .before .loop .k in
     let h = l .before .before .before .before .pre .0 in
-    let a = h .tasks in
-    (omega (arith, a .works k (of-table l), a .c-d k (of-table l), a .d-t k (of-table l)), omega (arith, a .c-d k (of-table l), a .d-t k (of-table l)), a .ticks k (of-table l), h .hyperperiod-most, omega (arith, l .before .loop .inv .small, few l)))  -- with-task-requires
+    let a = h .tasks in (
+      omega (arith, a .works k (of-table l), a .c-d k (of-table l), a .d-t k (of-table l)),
+      omega (arith, a .c-d k (of-table l), a .d-t k (of-table l)),
+      a .ticks k (of-table l),
+      h .hyperperiod-most,
+      omega (arith, l .before .loop .inv .small, few l),
+    ))  -- with-task-requires
     (λ c. search needs)  -- add-k
     (λ c. search needs)  -- loop-less
     (λ c.
     let l = c .before .before in
     let h = l .before .before .before .before .pre .0 in
     let a = h .tasks in
+    let t = l .before .before .before .before .args .table in
     let k = l .before .loop .k in
     ⊎-elim
     (λ w.
     rw (ap (λ (x : Load). x .0) (w .4) ∙ w .3 .ensures)
-    (summing-in (l .before .loop .inv) (of-table l) (rw (lt-ltb _ _ (l .loop-test .taken), eq-eqb _ _ (w .0 .taken)) refl) refl (omega (arith, work-le (getD (l .before .before .before .before .args .table .tasks .c) k 0) (getD (l .before .before .before .before .args .table .tasks .t) k 0) (l .before .before .before .before .args .table .hyperperiod) (omega (arith, a .c-d k (of-table l), a .d-t k (of-table l))), h .hyperperiod-most))))
+    (summing-in (l .before .loop .inv) (of-table l) (rw (lt-ltb _ _ (l .loop-test .taken), eq-eqb _ _ (w .0 .taken)) refl) refl
+    (omega (arith, work-le (getD (t .tasks .c) k 0) (getD (t .tasks .t) k 0) (t .hyperperiod) (omega (arith, a .c-d k (of-table l), a .d-t k (of-table l))), h .hyperperiod-most))))
     (λ w. rw (w .1) (summing-out (l .before .loop .inv) (of-table l) (rw (lt-ltb _ _ (l .loop-test .taken), ne-eqb _ _ (w .0 .left)) refl)))
     (c .if1 .came))  -- loop-again
     (λ c.
