@@ -5,13 +5,12 @@ use mathlib.Core.Bool.{Bool}
 use mathlib.Core.List.{List, [], _∷_, _++_, append-assoc, append-nil}
 use Prim.Native.Nat.{ℕ, zero, suc, _+_, _-_, _*_, _^_, _≤_, _<_}
 use native.Mathlib.Omega.{arith}
-use lib.ListN.{length, getD, take, drop, length-append, length-drop}
-use lib.Seq.{length-take-le, take-at, drop-at, drop-drop}
-use borrow.Rule.Slice.PartMut.{midOf, putMid}
-use Rattle.wire.specs.Wire.{number, recordBytes}
+use lib.ListN.{length, getD, take, drop, length-append}
+use lib.Seq.{length-take-le, drop-at, drop-drop}
+use Rattle.wire.specs.Wire.{number, recordBytes, laid, Put}
 use Rattle.wire.proofs.Laws.{number-at, number-behind, record-length}
-use Rattle.wire.proofs.Part.{over}
-use Rattle.answer.specs.Answer.{conflictBytes, records, endBytes, countOf, answerBytes, laid, maskAt, Listing}
+use Rattle.wire.proofs.Put.{put-length, put-then}
+use Rattle.answer.specs.Answer.{conflictBytes, records, endBytes, countOf, answerBytes, maskAt, Listing}
 
 -- ---- conflict records
 
@@ -49,43 +48,32 @@ words-snoc (c ∷ cs) m b h (suc j) = words-snoc cs m (λ i. b (suc i)) h j
 
 -- ---- the list in the part after the head
 
--- what a writer that was lent the part from `at` on leaves
-pub laid-part : (at : ℕ) (old new part : List ℕ) (k : ℕ) → length new ≡ k → part ≡ new ++ drop k (midOf at (length old - at) old)
-    → putMid at (length old - at) old part ≡ laid at new old
-unfolding laid
-laid-part at old new part k q e = over at old new part k e ∙ ap (λ (w : ℕ). take at old ++ (new ++ drop (at + w) old)) (sym q)
-
 module _ {old cs list : List ℕ} (w : Listing old cs list) where
+  -- the records are put at its start
+  listed : Put old 0 (records cs) list (6 * length cs)
+  unfolding laid
+  listed = let e : 0 + length (records cs) ≡ 6 * length cs = omega (arith, records-length cs) in record { holds = rw e (w .holds); ends = sym e; room = omega (arith, w .room) }
+
   pub listing-length : length list ≡ length old
-  listing-length = ap length (w .holds) ∙ simp (length-append, length-drop) (omega (arith, records-length cs, w .room))
-
-  front : take (6 * length cs) list ≡ records cs
-  front = ap (take (6 * length cs)) (w .holds) ∙ take-at (records cs) (drop (6 * length cs) old) (6 * length cs) (records-length cs)
-
-  beyond : (k : ℕ) → drop (6 * length cs + k) list ≡ drop (6 * length cs + k) old
-  beyond k =
-      sym (drop-drop k (6 * length cs) list)
-      ∙ ap (drop k) (ap (drop (6 * length cs)) (w .holds) ∙ drop-at (records cs) (drop (6 * length cs) old) (6 * length cs) (records-length cs))
-      ∙ drop-drop k (6 * length cs) old
+  listing-length = put-length listed
 
   -- bytes laid behind the records
-  behind : (new : List ℕ) {k : ℕ} → k ≡ length cs → laid (6 * k) new list ≡ records cs ++ (new ++ drop (6 * length cs + length new) old)
+  behind : (new : List ℕ) {k : ℕ} → k ≡ length cs → 6 * k + length new ≤ length old → laid (6 * k) new list ≡ (records cs ++ new) ++ drop (6 * length cs + length new) old
   unfolding laid
-  behind new q =
-      ap (λ (n : ℕ). take (6 * n) list ++ (new ++ drop (6 * n + length new) list)) q
-      ∙ ap (λ (l : List ℕ). l ++ (new ++ drop (6 * length cs + length new) list)) front
-      ∙ ap (λ (l : List ℕ). records cs ++ (new ++ l)) (beyond (length new))
+  behind new q r =
+      let put : Put list (6 * length cs) new (laid (6 * length cs) new list) (6 * length cs + length new) =
+      record { holds = refl; ends = refl; room = omega (arith, listing-length) } in
+      let e : 0 + length (records cs ++ new) ≡ 6 * length cs + length new = omega (arith, length-append (records cs) new, records-length cs) in
+      rw q (put-then listed put .holds ∙ ap (λ (n : ℕ). (records cs ++ new) ++ drop n old) e)
 
   -- one conflict more
   pub listing-append : {k m : ℕ} {list′ : List ℕ} → k ≡ length cs → 6 * k + 9 ≤ length old → m < 2 ^ 32
       → list′ ≡ laid (6 * k) (conflictBytes m) list → Listing old (cs ++ (m ∷ [])) list′
   listing-append {k} {m} {list′} q r b e =
-      let rest : 6 * length cs + length (conflictBytes m) ≡ 6 * length (cs ++ (m ∷ [])) = omega (arith, record-length (78 ∷ 71 ∷ []) m, length-append cs (m ∷ [])) in
+      let six = record-length (78 ∷ 71 ∷ []) m in
+      let rest : 6 * length cs + length (conflictBytes m) ≡ 6 * length (cs ++ (m ∷ [])) = omega (arith, six, length-append cs (m ∷ [])) in
       record {
-        holds = e
-            ∙ behind (conflictBytes m) q
-            ∙ sym (append-assoc (records cs) (conflictBytes m) (drop (6 * length cs + length (conflictBytes m)) old))
-            ∙ rw (records-snoc cs m, rest) refl;
+        holds = e ∙ behind (conflictBytes m) q (omega (arith, six)) ∙ rw (records-snoc cs m, rest) refl;
         room = omega (arith, length-append cs (m ∷ []));
         words = words-snoc cs m (w .words) b;
       }
@@ -93,7 +81,7 @@ module _ {old cs list : List ℕ} (w : Listing old cs list) where
   -- the end behind the list
   pub listing-end : {k : ℕ} {list′ : List ℕ} → k ≡ length cs → (complete : Bool) → list′ ≡ laid (6 * k) (endBytes complete) list
       → list′ ≡ records cs ++ endBytes complete ++ drop (6 * length cs + 3) old
-  listing-end q complete e = e ∙ behind (endBytes complete) q ∙ sym (append-assoc (records cs) (endBytes complete) (drop (6 * length cs + 3) old))
+  listing-end q complete e = e ∙ behind (endBytes complete) q (omega (arith, w .room))
 
 -- ---- the whole buffer
 

@@ -3,7 +3,7 @@ use mathlib.Core.Path.{_≡_}
 use mathlib.Core.Bool.{Bool}
 use mathlib.Core.List.{List, [], _∷_, _++_}
 use Prim.Native.Nat.{ℕ, _+_, _-_, _*_, _/_, _^_, _≤_, _<_}
-use lib.ListN.{length, getD, take, drop, replicate}
+use lib.ListN.{length, getD, drop, replicate}
 use Rattle.finite.specs.Finite.{only}
 use Rattle.wire.specs.Wire.{number, recordBytes}
 
@@ -39,10 +39,6 @@ places n len = (len - n - 5) / 6
 -- 01: the whole buffer is the head, the conflict records and the end; later bytes keep their contents
 unfoldable pub answerBytes : ℕ → List ℕ → List ℕ → Bool → List ℕ → List ℕ
 answerBytes n head cs complete old = head ++ records cs ++ endBytes complete ++ drop (countOf n (length cs)) old
-
--- old with the bytes new in place of as many from a place on (01: later bytes keep their contents)
-unfoldable pub laid : ℕ → List ℕ → List ℕ → List ℕ
-laid at new old = take at old ++ (new ++ drop (at + length new) old)
 
 -- the mask of conflict record j in the part after the head (01: `NG` and a 32-bit mask each)
 abbrev pub maskAt : List ℕ → ℕ → ℕ

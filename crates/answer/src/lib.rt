@@ -5,8 +5,8 @@ ghost use Prim.Native.Nat.{_+_, _*_, _≤_};
 ghost use lib.ListN.{length, take, drop};
 ghost use Rattle.finite.specs.Finite.{firstBelow};
 ghost use Rattle.mask.specs.Mask.{within};
-ghost use Rattle.wire.specs.Wire.{markBytes};
-ghost use Rattle.answer.specs.Answer.{foundHead, noneHead, conflictBytes, endBytes, places, laid, maskAt};
+ghost use Rattle.wire.specs.Wire.{markBytes, laid};
+ghost use Rattle.answer.specs.Answer.{foundHead, noneHead, conflictBytes, endBytes, places, maskAt};
 
 const AL: [u8; 2] = *b"AL";
 

@@ -2,7 +2,6 @@
 use mathlib.Core.Path.{_≡_, refl, ap}
 use mathlib.Core.Logic.{_≢_}
 use Prim.Native.Nat.{ℕ, zero, suc, _+_, _≤_, _<_}
-use native.Mathlib.Nat.{add-zero, add-suc}
 use native.Mathlib.Omega.{arith}
 use native.Mathlib.Decide.{ℕ-discrete}
 use Rattle.finite.specs.Finite.{sumTo}
@@ -28,10 +27,14 @@ sum-add zero f g = refl
 sum-add (suc n) f g = omega (arith, sum-add n f g)
 
 -- a sum whose later terms are 0
-pub sum-part : (n k : ℕ) (f : ℕ → ℕ) → ((j : ℕ) → n ≤ j → f j ≡ 0) → sumTo (n + k) f ≡ sumTo n f
+pub sum-beyond : (m n : ℕ) (f : ℕ → ℕ) → m ≤ n → ((i : ℕ) → m ≤ i → i < n → f i ≡ 0) → sumTo n f ≡ sumTo m f
 unfolding sumTo
-sum-part n zero f e = rw add-zero refl
-sum-part n (suc k) f e = rw add-suc (omega (arith, sum-part n k f e, e (n + k) (omega arith)))
+sum-beyond m zero f l z = let e : 0 ≡ m = omega arith in ap (λ (i : ℕ). sumTo i f) e
+sum-beyond m (suc n) f l z = go (ℕ-discrete (suc n) m) (λ (k : m ≤ n). sum-beyond m n f k (λ i p q. z i p (omega arith)))
+  where
+    go : Dec (suc n ≡ m) → (m ≤ n → sumTo n f ≡ sumTo m f) → sumTo (suc n) f ≡ sumTo m f
+    go (yes e) ih = ap (λ (i : ℕ). sumTo i f) e
+    go (no e) ih = omega (arith, z n (omega arith) (omega arith), ih (omega arith))
 
 -- two sums that differ at m alone
 pub sum-at : (n : ℕ) (f g : ℕ → ℕ) (m k : ℕ) → m < n → ((j : ℕ) → j < n → j ≢ m → f j ≡ g j) → f m ≡ g m + k → sumTo n f ≡ sumTo n g + k

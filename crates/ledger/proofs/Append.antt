@@ -10,12 +10,12 @@ use borrow.Author.Tests.{ne-eqb}
 use lib.Dec.{T, eqb}
 use lib.ListN.{length, take, drop, take-append-drop}
 use lib.Seq.{length-take-le, drop-at, drop-drop}
-use Rattle.wire.specs.Wire.{recordBytes}
+use Rattle.wire.specs.Wire.{recordBytes, laid}
 use Rattle.wire.proofs.Laws.{number-at, number-append, number-behind, record-length}
 use Rattle.mask.specs.Mask.{has}
 use Rattle.schedule.specs.Periodic.{Tasks}
 use Rattle.conflict.specs.Conflict.{Minimal, MinimalWithin}
-use Rattle.answer.specs.Answer.{conflictBytes, records, laid, maskAt, Listing}
+use Rattle.answer.specs.Answer.{conflictBytes, records, maskAt, Listing}
 use Rattle.answer.proofs.Laws.{listing-append, listing-length}
 use Rattle.ledger.specs.Ledger.{masksIn, Covered, Ledger, Grows}
 use Rattle.ledger.proofs.Masks.{masks-long, masks-ext, listing-of}

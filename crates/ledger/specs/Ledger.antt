@@ -11,7 +11,8 @@ use Rattle.mask.specs.Mask.{has, within, Subset}
 use Rattle.schedule.specs.Periodic.{Tasks, LateSet}
 use Rattle.schedule.specs.Response.{lateTest}
 use Rattle.conflict.specs.Conflict.{Minimal}
-use Rattle.answer.specs.Answer.{conflictBytes, records, laid, maskAt}
+use Rattle.wire.specs.Wire.{laid}
+use Rattle.answer.specs.Answer.{conflictBytes, records, maskAt}
 use Rattle.known.specs.Known.{placeOf, withVerdict}
 use Rattle.ledger.specs.declared.Tested.{Tested}
 

@@ -1,7 +1,7 @@
 // The lines of the program's listing that hold numbers: each is put at a place of a lent buffer, and its end is returned.
 ghost use Prim.Native.Nat.{_+_, _≤_, _<_};
 ghost use lib.ListN.{length};
-ghost use Rattle.text.specs.Text.{Put};
+ghost use Rattle.wire.specs.Wire.{Put};
 ghost use Rattle.lines.specs.Lines.{item, taskLine, pairLine, loadLine, member, conflictLine, refusedLine};
 
 const LF: [u8; 1] = *b"\n";

@@ -6,7 +6,7 @@ use Rattle.table.specs.Table.{readOf}
 use Rattle.search.specs.declared.Answer.{Answer}
 use Rattle.search.specs.declared.Answer.the-variants.{Refused, Written}
 use Rattle.search.specs.Search.{Searched}
-use Rattle.text.specs.Text.{Put}
+use Rattle.wire.specs.Wire.{Put}
 use Rattle.lines.specs.Lines.{refusedLine}
 use Rattle.report.specs.Report.{answerLines}
 

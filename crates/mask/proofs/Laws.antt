@@ -3,7 +3,8 @@ use mathlib.Core.Path.{_≡_, refl, sym, ap, _∙_}
 use mathlib.Core.Logic.{_≢_, ⊎-elim}
 use mathlib.Core.Bool.{Bool, true, false, not, _&&_, _||_, and-false}
 use Prim.Native.Nat.{ℕ, zero, suc, _+_, _-_, _*_, _/_, _%_, _^_, _<_, _≤_, min, max}
-use native.Mathlib.Nat.{one-mul, div-one, div-eq-of-lt, div-mul-le-self, mod-le, mul-le-mul-right, pow-suc, zero-div, le-of-suc-le-suc, lt-of-not-le, lt-of-lt-of-le, lt-of-le-of-lt, le-antisymm, mul-assoc, le-div-iff-mul-le, div-lt-iff-lt-mul, le-of-eq, le-dest}
+use native.Mathlib.Nat.{one-mul, div-one, div-eq-of-lt, div-mul-le-self, mod-le, mul-le-mul-right, pow-suc, zero-div, mul-assoc, le-div-iff-mul-le, div-lt-iff-lt-mul}
+use native.Mathlib.Nat.{le-of-suc-le-suc, lt-of-not-le, lt-of-lt-of-le, lt-of-le-of-lt, le-antisymm, le-of-eq}
 use native.Mathlib.Decide.{ℕ-discrete}
 use native.Mathlib.Omega.{arith}
 use borrow.Author.Tests.{eq-eqb, ne-eqb, lt-ltb, le-ltb}
@@ -12,7 +13,7 @@ use lib.Bits.{bitAnd, bitOr, and-step, or-step, and-shr, or-shr, or-shifted-r, a
 use lib.Count.{ones, ones-step, trailingZeros, under}
 use lib.Pow.{shl-exact, pow-add, pow-mono, pow-pos, shr-shr}
 use Rattle.finite.specs.Finite.{only, sumTo}
-use Rattle.finite.proofs.Sum.{sum-at, sum-ext, sum-part, sum-zero}
+use Rattle.finite.proofs.Sum.{sum-at, sum-ext, sum-beyond, sum-zero}
 use Rattle.finite.proofs.Only.{only-le, only-out, sum-bound, sum-more}
 use Rattle.finite.proofs.Some.{or-either}
 use Rattle.finite.proofs.First.{First, first, found, missing}
@@ -264,7 +265,7 @@ sum-most n m f b h = sum-bound n (λ j. only (has m j) (f j)) b (λ j l. only-le
 -- numbers beyond the members add nothing
 pub sum-wider : (n w m : ℕ) (f : ℕ → ℕ) → n ≤ w → T (below n m) → sumOver w m f ≡ sumOver n m f
 unfolding sumOver
-sum-wider n w m f l b = let k = le-dest l in rw (k .1) at (sum-part n (k .0) (λ j. only (has m j) (f j)) (λ j h. only-out (has m j) (f j) (λ u. omega (arith, below-has n m b j u))))
+sum-wider n w m f l b = sum-beyond n w (λ j. only (has m j) (f j)) l (λ j h k. only-out (has m j) (f j) (λ u. omega (arith, below-has n m b j u)))
 
 cardinality-only : (w m : ℕ) → cardinality w m ≡ sumOver w m (λ j. 1)
 unfolding sumOver

@@ -5,7 +5,7 @@ ghost use lib.ListN.{length};
 ghost use Rattle.table.specs.Sound.{Sound};
 ghost use Rattle.rules.specs.Placement.{placed};
 ghost use Rattle.rules.specs.Rules.{loadOn};
-ghost use Rattle.text.specs.Text.{Put};
+ghost use Rattle.wire.specs.Wire.{Put};
 ghost use Rattle.report.specs.Report.{taskLines, loadLines, placementLines, headLines, conflictLines, lastLine, answerLines};
 use load::Load;
 use table::Table;

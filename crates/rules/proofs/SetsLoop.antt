@@ -34,7 +34,13 @@ module _ {q : List ℕ} {k : ℕ} {sets : List ℕ} (w : Placing q k sets) where
   }
     where
       go : (r : ℕ) → r < 8 → Dec (r ≡ p) → getD (set sets p v) r 0 ≡ maskOf (suc k) (λ j. eqb (getD q j 0) r)
-      go r m (yes d) = ap (λ (x : ℕ). getD (set sets p v) x 0) d ∙ getD-set-same sets p v 0 (omega (arith, w .long)) ∙ put ∙ ap (λ (x : ℕ). insertOf x k) (w .tasks p low) ∙ mask-insert k (λ j. eqb (getD q j 0) p) (eq-eqb _ _ (sym e)) ∙ ap (λ (x : ℕ). maskOf (suc k) (λ j. eqb (getD q j 0) x)) (sym d)
+      go r m (yes d) =
+          ap (λ (x : ℕ). getD (set sets p v) x 0) d
+          ∙ getD-set-same sets p v 0 (omega (arith, w .long))
+          ∙ put
+          ∙ ap (λ (x : ℕ). insertOf x k) (w .tasks p low)
+          ∙ mask-insert k (λ j. eqb (getD q j 0) p) (eq-eqb _ _ (sym e))
+          ∙ ap (λ (x : ℕ). maskOf (suc k) (λ j. eqb (getD q j 0) x)) (sym d)
       go r m (no d) = getD-set-other sets p r v 0 d ∙ w .tasks r m ∙ mask-skip k (λ j. eqb (getD q j 0) r) (ne-eqb _ _ (λ z. d (sym z ∙ sym e)))
 
   pub placing-end : length q ≤ k → sets ≡ setsOf q

@@ -6,8 +6,8 @@ use Prim.Native.Nat.{ℕ, _*_, _/_, _≤_, _<_}
 use lib.Bits.{bitAnd}
 use lib.Dec.{T, leb, eqb}
 use lib.ListN.{length, getD}
-use Rattle.finite.specs.Finite.{only, sumTo, someBelow, firstBelow}
-use Rattle.mask.specs.Mask.{has, cardinality, maskOf}
+use Rattle.finite.specs.Finite.{someBelow, firstBelow}
+use Rattle.mask.specs.Mask.{has, cardinality, maskOf, sumOver}
 use Rattle.table.specs.declared.Tasks.{Tasks}
 use Rattle.table.specs.declared.Table.{Table}
 use Rattle.table.specs.Table.{column}
@@ -53,7 +53,7 @@ outsideOf sets m k mask = someBelow m (λ p. standing sets k p && not (has mask 
 
 -- the memory and the load of the tasks in the set
 unfoldable pub memoryOf : Tasks → ℕ → ℕ
-memoryOf a set = sumTo (a .count) (λ k. only (has set k) (getD (a .memory) k 0))
+memoryOf a set = sumOver (a .count) set (λ k. getD (a .memory) k 0)
 
 -- 01: 1 ≤ C ≤ T ≤ 1,000,000, which keeps loads small
 pub record Works (a : Tasks) : Type 0 where
@@ -63,7 +63,7 @@ pub record Works (a : Tasks) : Type 0 where
   pub ticks : (k : ℕ) → k < a .count → getD (a .t) k 0 ≤ 1000000
 
 unfoldable pub loadOf : Tasks → ℕ → ℕ → ℕ
-loadOf a h set = sumTo (a .count) (λ k. only (has set k) (getD (a .c) k 0 * h / getD (a .t) k 0))
+loadOf a h set = sumOver (a .count) set (λ k. getD (a .c) k 0 * h / getD (a .t) k 0)
 
 -- a response of 0 marks a task that misses its deadline
 abbrev pub missed : List ℕ → ℕ → Bool

@@ -6,7 +6,7 @@
 --     late?           and it is decided
 --     late-within     a set that holds a late set is late
 --     empty-not-late  a set without tasks is not late, whatever the deadlines are
-use mathlib.Core.Path.{_≡_, refl, ap, subst, _∙_}
+use mathlib.Core.Path.{_≡_, refl, ap, _∙_}
 use mathlib.Core.Bool.{Bool, true, false, _&&_}
 use mathlib.Core.Logic.{_↔_}
 use Prim.Native.Nat.{ℕ, zero, suc, _+_, _*_, _/_, _%_, _≤_, _<_}
@@ -234,13 +234,6 @@ module _ (s : Tasks) (valid : Valid s) (on : ℕ → Bool) where
       go : (b : Bool) → Says b (LateSet s on) → Dec (LateSet s on)
       go true q = yes q
       go false q = no q
-
--- an answer's two sides
-pub late-yes : {s : Tasks} {on : ℕ → Bool} (b : Bool) → Says b (LateSet s on) → b ≡ true → LateSet s on
-late-yes {s} {on} b p e = subst (λ (x : Bool). Says x (LateSet s on)) e p
-
-pub late-no : {s : Tasks} {on : ℕ → Bool} (b : Bool) → Says b (LateSet s on) → b ≡ false → LateSet s on → ⊥
-late-no {s} {on} b p e = subst (λ (x : Bool). Says x (LateSet s on)) e p
 
 -- ---- a set within another
 

@@ -8,6 +8,7 @@ pub mod Ceil
 pub mod FixedPoint
 pub mod InTime
 pub mod LateSets
+pub mod Says
 pub mod Shares
 pub mod Tabulate
 pub mod TasksOfArrays

@@ -2,7 +2,7 @@
 use mathlib.Core.Path.{_≡_, refl, sym, ap, ap₂, _∙_}
 use mathlib.Core.Bool.{Bool, _&&_}
 use mathlib.Core.List.{List}
-use Prim.Native.Nat.{ℕ, zero, suc, _+_, _*_, _≤_, _<_}
+use Prim.Native.Nat.{ℕ, _+_, _≤_, _<_}
 use native.Mathlib.Omega.{arith}
 use borrow.Author.Tests.{lt-ltb}
 use lib.Bits.{bitAnd}
@@ -13,8 +13,8 @@ use Rattle.finite.proofs.Sum.{sum-ext}
 use Rattle.mask.specs.Mask.{has, below, Subset, sumOver}
 use Rattle.mask.proofs.Laws.{below-has, has-below, has-and, has-mask, subset-below, sum-wider}
 use Rattle.schedule.specs.Periodic.{Valid, Constrained, LateSet}
-use Rattle.schedule.specs.Response.{ceil, share, demand, response}
-use Rattle.schedule.specs.Arrays.{InLimits, SmallShares, higherThan, shareOf, sharesOf, tasksOf, workRow, periodRow, deadlineRow, priorityRow, higherRow}
+use Rattle.schedule.specs.Response.{share, demand, response}
+use Rattle.schedule.specs.Arrays.{InLimits, SmallShares, higherThan, shareOf, sharesOf, tasksOf, workRow, deadlineRow, priorityRow, higherRow}
 use Rattle.mask.proofs.Tests.{and-left, and-right}
 use Rattle.schedule.proofs.Only.{only-in}
 use Rattle.schedule.proofs.LateSets.{late-set}

@@ -16,7 +16,8 @@ use Rattle.rules.specs.Placement.{placed}
 use Rattle.rules.specs.Sets.{standing, Names}
 use Rattle.judge.specs.Judge.{PlacementOf}
 use Rattle.judge.specs.Good.{Good}
-use Rattle.answer.specs.Answer.{foundHead, endBytes, places, countOf, laid, Listing}
+use Rattle.wire.specs.Wire.{laid}
+use Rattle.answer.specs.Answer.{foundHead, endBytes, places, countOf, Listing}
 use Rattle.answer.proofs.Laws.{listing-length, whole-last}
 use Rattle.goal.specs.Order.{EarlierThan, Earlier}
 use Rattle.goal.specs.Goal.{headOf, markOf, Listed}

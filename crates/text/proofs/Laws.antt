@@ -1,71 +1,17 @@
 -- Pieces of text follow one another. Assumes nothing.
-use mathlib.Core.Path.{_≡_, refl, sym, ap, _∙_}
+use mathlib.Core.Path.{_≡_, refl, ap, _∙_}
 use mathlib.Core.Bool.{Bool, true, false, cond}
-use mathlib.Core.List.{List, [], _∷_, _++_, append-assoc, append-nil}
+use mathlib.Core.List.{List, [], _∷_, _++_}
 use Prim.Native.Nat.{ℕ, zero, suc, _+_, _-_, _/_, _%_, _≤_, _<_}
-use native.Mathlib.Nat.{le-dest}
 use native.Mathlib.Numerals.{add-one}
 use native.Mathlib.Omega.{arith}
 use native.Mathlib.Decide.{decLt}
 use borrow.Author.Tests.{lt-ltb, le-ltb}
 use lib.Dec.{ltb}
-use lib.ListN.{length, getD, take, drop, set, take-append-drop, length-append, length-drop}
-use lib.Seq.{take-at, drop-at, drop-drop, take-length, length-take-le, split-at, set-at, paste}
-use Rattle.text.specs.Text.{digits, decimal, pieces, Put}
-
--- no text
-pub put-nothing : (old : List ℕ) (at : ℕ) → at ≤ length old → Put old at [] old at
-put-nothing old at h = record { text = rw (append-nil (take at old)) (sym (take-append-drop at old)); ends = omega arith; room = h }
-
-module _ {old new piece : List ℕ} {at end : ℕ} (x : Put old at piece new end) where
-  front : length (take at old ++ piece) ≡ end
-  front = length-append (take at old) piece ∙ omega (arith, length-take-le at old (omega (arith, x .ends, x .room)), x .ends)
-
-  before : take end new ≡ take at old ++ piece
-  before = ap (take end) (x .text) ∙ take-at (take at old ++ piece) (drop end old) end front
-
-  after : drop end new ≡ drop end old
-  after = ap (drop end) (x .text) ∙ drop-at (take at old ++ piece) (drop end old) end front
-
-  pub put-length : length new ≡ length old
-  put-length = ap length (x .text) ∙ length-append (take at old ++ piece) (drop end old) ∙ omega (arith, front, length-drop end old, x .room)
-
-  far : (f : ℕ) → end ≤ f → drop f new ≡ drop f old
-  far f l =
-      let k = le-dest l in
-      rw (← k .1) (sym (drop-drop (k .0) end new) ∙ ap (drop (k .0)) after ∙ drop-drop (k .0) end old)
-
--- one piece after another
-pub put-then : {old mid new a b : List ℕ} {at e f : ℕ} → Put old at a mid e → Put mid e b new f → Put old at (a ++ b) new f
-put-then {old} {mid} {new} {a} {b} {at} {e} {f} x y = record {
-  text =
-      y .text
-      ∙ ap (λ (z : List ℕ). z ++ b ++ drop f mid) (before x)
-      ∙ ap (λ (z : List ℕ). take at old ++ a ++ b ++ z) (far x f (omega (arith, y .ends)))
-      ∙ ap (λ (z : List ℕ). z ++ drop f old) (append-assoc (take at old) a b);
-  ends = omega (arith, x .ends, y .ends, length-append a b);
-  room = omega (arith, y .room, put-length x);
-}
-
--- a byte
-pub put-byte : (old : List ℕ) (at b : ℕ) → at < length old → Put old at (b ∷ []) (set old at b) (at + 1)
-put-byte old at b h = record {
-  text =
-      ap (λ (l : List ℕ). set l at b) (split-at old at 0 h)
-      ∙ set-at (take at old) (getD old at 0) (drop (suc at) old) b at (length-take-le at old (omega arith))
-      ∙ sym (append-assoc (take at old) (b ∷ []) (drop (suc at) old))
-      ∙ ap (λ (k : ℕ). take at old ++ (b ∷ []) ++ drop k old) (sym (add-one at));
-  ends = omega arith;
-  room = omega arith;
-}
-
--- as many bytes of a piece as a loop has copied
-pub put-copied : {old piece new : List ℕ} {at j : ℕ} → at + length piece ≤ length old → j ≡ length piece → new ≡ paste old at piece j → Put old at piece new (at + j)
-put-copied {old} {piece} {new} {at} h e x = record {
-  text = x ∙ ap (λ (k : ℕ). take at old ++ take k piece ++ drop (at + k) old) e ∙ ap (λ (z : List ℕ). take at old ++ z ++ drop (at + length piece) old) (take-length piece) ∙ ap (λ (k : ℕ). take at old ++ piece ++ drop (at + k) old) (sym e);
-  ends = omega (arith, e);
-  room = omega (arith, e);
-}
+use lib.ListN.{length, length-append}
+use Rattle.wire.specs.Wire.{Put}
+use Rattle.wire.proofs.Put.{put-nothing, put-then}
+use Rattle.text.specs.Text.{digits, decimal, pieces}
 
 -- one piece more of a row
 pub put-more : (f : ℕ → List ℕ) {old mid new : List ℕ} {at e g n : ℕ} → Put old at (pieces n f) mid e → Put mid e (f n) new g → Put old at (pieces (n + 1) f) new g

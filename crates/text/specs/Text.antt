@@ -1,13 +1,11 @@
 -- Text as bytes. Assumes nothing.
-use mathlib.Core.Path.{_≡_}
 use mathlib.Core.Bool.{cond}
 use mathlib.Core.List.{List, [], _∷_, _++_}
-use Prim.Native.Nat.{ℕ, zero, suc, _+_, _/_, _%_, _≤_}
+use Prim.Native.Nat.{ℕ, zero, suc, _+_, _/_, _%_}
 use Prim.Native.Char.{code}
 use Prim.Native.String as string
 use Prim.Native.String.{String}
 use lib.Dec.{ltb}
-use lib.ListN.{length, take, drop}
 
 -- a text's characters in ASCII
 abbrev pub ascii : String → List ℕ
@@ -27,9 +25,3 @@ decimal x = digits 20 x
 unfoldable pub pieces : ℕ → (ℕ → List ℕ) → List ℕ
 pieces zero f = []
 pieces (suc n) f = pieces n f ++ f n
-
--- a piece of text was put at a place; it ends at `end`, and what stood behind that stands there still
-pub record Put (old : List ℕ) (at : ℕ) (piece new : List ℕ) (end : ℕ) : Type 0 where
-  pub text : new ≡ take at old ++ piece ++ drop end old
-  pub ends : end ≡ at + length piece
-  pub room : end ≤ length old

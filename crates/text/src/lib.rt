@@ -1,7 +1,8 @@
 // Text in a buffer, piece after piece.
 ghost use Prim.Native.Nat.{_+_, _≤_, _<_};
 ghost use lib.ListN.{length};
-ghost use Rattle.text.specs.Text.{digits, decimal, Put};
+ghost use Rattle.wire.specs.Wire.{Put};
+ghost use Rattle.text.specs.Text.{digits, decimal};
 
 // Puts a piece at a place, and returns where it ends.
 pub fn put(text: &mut [u8], at: usize, piece: &[u8]) -> usize

@@ -1,5 +1,5 @@
 -- What follows from what is asked, and from what a caller of the search holds. Assumes nothing.
-use mathlib.Core.Path.{_≡_, refl, subst}
+use mathlib.Core.Path.{_≡_, refl}
 use mathlib.Core.Bool.{Bool, true, false}
 use mathlib.Core.List.{List}
 use Prim.Native.Nat.{ℕ, _<_}
@@ -10,6 +10,7 @@ use Rattle.mask.specs.Mask.{below, sumOver}
 use Rattle.mask.proofs.Laws.{has-below, sum-same}
 use Rattle.table.specs.declared.Table.{Table}
 use Rattle.schedule.specs.Arrays.{Says}
+use Rattle.schedule.proofs.Says.{says-yes, says-no, says-iff}
 use Rattle.rules.specs.Sets.{memoryOf, loadOf}
 use Rattle.columns.specs.Columns.{residenceRow, memoryRow, loadRow}
 use Rattle.columns.proofs.Laws.{loads-get}
@@ -32,18 +33,6 @@ asks lent fits l = record {
   known = omega (arith, lent .processors);
 }
 
--- an answer, taken by its value
-pub says-yes : (b : Bool) (A : Type 0) → Says b A → b ≡ true → A
-says-yes b A x e = subst (λ (y : Bool). Says y A) e x
-
-pub says-no : (b : Bool) (A : Type 0) → Says b A → b ≡ false → A → ⊥
-says-no b A x e = subst (λ (y : Bool). Says y A) e x
-
--- and for another question that has the same
-says-iff : (b : Bool) (A B : Type 0) → Says b A → (A → B) → (B → A) → Says b B
-says-iff true A B x f g = f x
-says-iff false A B x f g = λ y. x (g y)
-
 module _ {t : Table} {columns : List (List ℕ)} {s : State} {p : ℕ} (w : Asks t columns s p) where
   open-below : T (below (t .tasks .count) (s .left))
   open-below = has-below (t .tasks .count) (s .left) (λ k u. w .fits .open-task k u .0)
@@ -53,11 +42,11 @@ module _ {t : Table} {columns : List (List ℕ)} {s : State} {p : ℕ} (w : Asks
 
   -- the sums of the lent columns are those of the table
   sum-memory : sumOver (t .tasks .count) (s .left) (λ k. getD (memoryRow columns) k 0) ≡ memoryOf (t .tasks) (s .left)
-  unfolding memoryOf sumOver
+  unfolding memoryOf
   sum-memory = rw (w .same-memory) refl
 
   sum-load : sumOver (t .tasks .count) (s .left) (λ k. getD (loadRow columns) k 0) ≡ loadOf (t .tasks) (t .hyperperiod) (s .left)
-  unfolding loadOf sumOver
+  unfolding loadOf
   sum-load = sum-same (t .tasks .count) (s .left) (λ k. getD (loadRow columns) k 0) (work t) (λ k l u. rw (w .same-loads, loads-get t (w .sound) k l) refl)
 
   -- the code's answer on the memory of p and q, and on their load

@@ -10,7 +10,7 @@ use lib.ListN.{getD}
 use Rattle.finite.proofs.Sum.{sum-zero}
 use Rattle.finite.proofs.Some.{Answer, passes, fails, answer}
 use Rattle.finite.proofs.Only.{only-out, sum-more}
-use Rattle.mask.specs.Mask.{has}
+use Rattle.mask.specs.Mask.{has, sumOver}
 use Rattle.mask.proofs.Laws.{has-zero}
 use Rattle.table.specs.declared.Table.{Table}
 use Rattle.rules.specs.Placement.{placed, andTask}
@@ -93,13 +93,13 @@ module _ {t : Table} {s : State} (fits : Fits t s) where
     module _ (keeps : Keeps t (placed x)) {a b : ℕ} (i : Interchangeable t s a b) where
       -- b has room for what stands on a
       memory-room : memoryOn t (placed x) a ≤ getD (t .processors .memory) b 0
-      unfolding memoryOn memoryOf
+      unfolding memoryOn memoryOf sumOver
       memory-room =
           rw (← all-memory b (i .empty-q) (i .known-q))
           (alike-fits (i .memory) (sum-more (t .tasks .count) (λ k. placed x k a) (has (s .left)) _ (was-open a (i .empty-p))) (rw (all-memory a (i .empty-p) (i .known-p)) (kept-memory t (placed x) keeps a (i .known-p))))
 
       load-room : 1000 * loadOn t (placed x) a ≤ getD (t .processors .limit) b 0 * t .hyperperiod
-      unfolding loadOn loadOf
+      unfolding loadOn loadOf sumOver
       load-room =
           alike-thousandths (i .load) (sum-more (t .tasks .count) (λ k. placed x k a) (has (s .left)) _ (was-open a (i .empty-p)))
           (all-load a (i .empty-p) (i .known-p)) (all-load b (i .empty-q) (i .known-q)) (kept-load t (placed x) keeps a (i .known-p))

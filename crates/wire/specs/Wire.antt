@@ -1,9 +1,10 @@
 -- Numbers and marks in a list of bytes. Assumes nothing.
+use mathlib.Core.Path.{_≡_}
 use mathlib.Core.Bool.{Bool, _&&_}
 use mathlib.Core.List.{List, [], _∷_, _++_}
-use Prim.Native.Nat.{ℕ, zero, suc, _+_, _*_, _/_, _%_, _<_}
+use Prim.Native.Nat.{ℕ, zero, suc, _+_, _*_, _/_, _%_, _≤_, _<_}
 use lib.Dec.{eqb}
-use lib.ListN.{getD, take, drop}
+use lib.ListN.{length, getD, take, drop}
 
 -- the value of bytes, least first (01: numbers are little-endian, unsigned)
 unfoldable pub little : List ℕ → ℕ
@@ -34,3 +35,13 @@ markBytes m = getD m 0 0 ∷ getD m 1 0 ∷ []
 -- a record of a mark and a 32-bit value (01: `NG` and a 32-bit mask each)
 unfoldable pub recordBytes : List ℕ → ℕ → List ℕ
 recordBytes m v = markBytes m ++ bytes 4 v
+
+-- old with the bytes new in place of as many from a place on (01: later bytes keep their contents)
+unfoldable pub laid : ℕ → List ℕ → List ℕ → List ℕ
+laid at new old = take at old ++ (new ++ drop (at + length new) old)
+
+-- a piece was put at a place; it ends at `end`, and what stood behind that stands there still
+pub record Put (old : List ℕ) (at : ℕ) (piece new : List ℕ) (end : ℕ) : Type 0 where
+  pub holds : new ≡ laid at piece old
+  pub ends : end ≡ at + length piece
+  pub room : end ≤ length old

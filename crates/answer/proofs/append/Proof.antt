@@ -3,8 +3,8 @@ use mathlib.Core.List.{[], _∷_}
 use Prim.Native.Nat.{_*_}
 use borrow.Author.Needs.{needs}
 use Rattle.wire.proofs.Laws.{record-length}
+use Rattle.wire.proofs.Put.{laid-part}
 use Rattle.answer.specs.Answer.{conflictBytes}
-use Rattle.answer.proofs.Laws.{laid-part}
 use Rattle.answer.proofs.append.Statement.{statement}
 use Rattle.answer.proofs.append.Tie as tie
 

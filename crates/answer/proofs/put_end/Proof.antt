@@ -3,7 +3,7 @@ use mathlib.Core.Path.{refl}
 use Prim.Native.Nat.{_*_}
 use borrow.Author.Needs.{needs}
 use Rattle.answer.specs.Answer.{endBytes}
-use Rattle.answer.proofs.Laws.{laid-part}
+use Rattle.wire.proofs.Put.{laid-part}
 use Rattle.answer.proofs.put_end.Statement.{statement}
 use Rattle.answer.proofs.put_end.Tie as tie
 

@@ -5,6 +5,7 @@ use native.Mathlib.Nat.{mul-le-mul}
 use native.Mathlib.Omega.{arith}
 use borrow.Author.Needs.{needs}
 use lib.Dec.{lt→ltb}
+use Rattle.mask.specs.Mask.{sumOver}
 use Rattle.table.specs.declared.Table.{Table}
 use Rattle.table.specs.Sound.{Sound}
 use Rattle.table.proofs.Times.{work-in-period, some-period}
@@ -43,7 +44,7 @@ works s = record {
 }
 
 pub breaks-spec : {M : Type 1} → statement M
-unfolding residenceBroken outsideOf coResidenceBroken exclusionBroken memoryBroken memoryOn memoryOf utilisationBroken loadOn loadOf networkBroken
+unfolding residenceBroken outsideOf coResidenceBroken exclusionBroken memoryBroken memoryOn memoryOf utilisationBroken loadOn loadOf sumOver networkBroken
 breaks-spec =
     tie.close
     (tie.spec
@@ -74,10 +75,16 @@ breaks-spec =
     (λ c κs. let s = c .before .before .before .before .before .before in (works (s .pre .0), s .pre .0 .hyperperiod-most))  -- load-of-requires
     (λ c. record { fits = omega (arith, with-limit (c .before)) })  -- mul-exceeds
     (λ c. with-limit (c .before))  -- element-copy-out-exceeds
-    (λ c κs. let s = c .before .before .before .before .before .before .before .before in (s .pre .0 .processors .most-limit _ (rw (c .before .before .enum-told5 .given .1) at (s .pre .1)), some-tick (s .pre .0), s .pre .0 .hyperperiod-most, omega (arith, c .before .load-of .ensures, s .pre .0 .hyperperiod-most)))  -- exceeds-requires
+    (λ c κs.
+    let s = c .before .before .before .before .before .before .before .before in
+    let limit = s .pre .0 .processors .most-limit _ (rw (c .before .before .enum-told5 .given .1) at (s .pre .1)) in
+    (limit, some-tick (s .pre .0), s .pre .0 .hyperperiod-most, omega (arith, c .before .load-of .ensures, s .pre .0 .hyperperiod-most)))  -- exceeds-requires
     (λ c. search needs)  -- enum-told-6
     (λ c κs. search needs)  -- wide-requires-2
-    (λ c. let s = c .before .before .before .before .before .before .before in record { fits = omega (arith, mul-le-mul {n₁ = c .wide2 .result} {m₁ = s .args .t .hyperperiod} {n₂ = 4294967295} {m₂ = 1000000000} (omega (arith, c .wide2 .ensures)) (s .pre .0 .hyperperiod-most)) })  -- mul-result
+    (λ c.
+    let s = c .before .before .before .before .before .before .before in
+    let h = s .args .t .hyperperiod in
+    record { fits = omega (arith, mul-le-mul {n₁ = c .wide2 .result} {m₁ = h} {n₂ = 4294967295} {m₂ = 1000000000} (omega (arith, c .wide2 .ensures)) (s .pre .0 .hyperperiod-most)) })  -- mul-result
     (λ c κs. search needs)  -- traffic-of-requires
     (λ c. search needs)  -- enum-told-7
     (λ c. record { fits = omega (arith, with-deadline c) })  -- mul-result-2

@@ -6,7 +6,7 @@ use native.Mathlib.Nat.{mul-le-mul, mul-le-mul-right}
 use native.Mathlib.Omega.{arith}
 use borrow.Author.Needs.{needs}
 use lib.ListN.{getD}
-use Rattle.mask.specs.Mask.{has}
+use Rattle.mask.specs.Mask.{has, sumOver}
 use Rattle.load.specs.declared.Load.{Load}
 use Rattle.rules.specs.Sets.{loadOf}
 use Rattle.load.proofs.Work.{work-le}
@@ -25,7 +25,7 @@ few : (c : tie.In-loop Inv-loop μ-loop) → c .before .loop .k < 24
 few c = omega (arith, c .before .before .pre .0 .few)
 
 pub load-of-spec : {M : Type 1} → statement M
-unfolding loadOf
+unfolding loadOf sumOver
 load-of-spec =
     tie.close
     (tie.spec

@@ -5,7 +5,7 @@ use Prim.Native.Nat.{_-_}
 use native.Mathlib.Omega.{arith}
 use borrow.Author.Needs.{needs}
 use lib.ListN.{getD}
-use Rattle.mask.specs.Mask.{has}
+use Rattle.mask.specs.Mask.{has, sumOver}
 use Rattle.rules.specs.Sets.{memoryOf}
 use Rattle.rules.proofs.SumLoop.{Summing, summing-start, summing-in, summing-out, summing-end}
 use Rattle.checking.proofs.memory_of.Statement.{statement}
@@ -18,7 +18,7 @@ abbrev μ-loop : tie.MeasureT-loop
 μ-loop set tasks n sum₀ k₀ sum k = n - k
 
 pub memory-of-spec : {M : Type 1} → statement M
-unfolding memoryOf
+unfolding memoryOf sumOver
 memory-of-spec =
     tie.close
     (tie.spec

@@ -28,7 +28,10 @@ amount-at-spec =
     (λ c. search needs)  -- mul-wide
     (λ c. search needs)  -- element-copy-out-wide
     (λ c κs. search needs)  -- wide-requires
-    (λ c. let e = c .before .before .before .before .before in record { fits = rw (c .before .wide .ensures .0) (omega (arith, amount-bound (e .before .before .args .t) (e .before .before .pre) (e .before .before .args .j) (e .if1 .left))) })  -- mul-result
+    (λ c.
+    let e = c .before .before .before .before .before in
+    let z = e .before .before in
+    record { fits = rw (c .before .wide .ensures .0) (omega (arith, amount-bound (z .args .t) (z .pre) (z .args .j) (e .if1 .left))) })  -- mul-result
     (λ c. record { fits = omega (arith, sender (c .before .before .before .before .before)) })  -- mul-wide-2
     (λ c. sender (c .before .before .before .before .before) .0)  -- element-copy-out-wide-2
     (λ c κs. search needs)  -- wide-requires-2

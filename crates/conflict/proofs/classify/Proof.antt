@@ -9,7 +9,7 @@ use Rattle.mask.proofs.Laws.{remove-subset}
 use Rattle.mask.proofs.Visit.{Visit, visit-start, visit-member, visit-less, visit-next, visit-end}
 use Rattle.schedule.specs.Periodic.{LateSet}
 use Rattle.schedule.specs.Arrays.{tasksOf}
-use Rattle.schedule.proofs.LateSets.{late-yes, late-no}
+use Rattle.schedule.proofs.Says.{says-yes, says-no}
 use Rattle.schedule.proofs.TasksOfArrays.{task-of, with-subset}
 use Rattle.conflict.specs.Conflict.{Needed}
 use Rattle.conflict.specs.declared.Finding.the-variants.{NoConflict, NotMinimal, MinimalConflict}
@@ -31,7 +31,7 @@ below-32 c = let p = c .before .before .before .before .before .pre in omega (ar
 
 -- the set is late
 late : (c : tie.Else1 Inv-loop μ-loop) → let z = c .before .before .args in LateSet (tasksOf (z .n) (z .timing .now)) (has (z .set))
-late c = let b = c .before .is-late in late-yes (b .result) (b .ensures) (not-false (b .result) (c .if1 .left))
+late c = let b = c .before .is-late in says-yes (b .result) _ (b .ensures) (not-false (b .result) (c .if1 .left))
 
 pub classify-spec : {M : Type 1} → statement M
 classify-spec =
@@ -40,7 +40,7 @@ classify-spec =
     Inv-loop
     μ-loop
     (λ c κs. search needs)  -- is-late-requires
-    (λ c. let b = c .before .is-late in checked-of (c .before .before .pre) NoConflict (late-no (b .result) (b .ensures) (not-true (b .result) (c .if1 .taken))))  -- returns
+    (λ c. let b = c .before .is-late in checked-of (c .before .before .pre) NoConflict (says-no (b .result) _ (b .ensures) (not-true (b .result) (c .if1 .taken))))  -- returns
     (λ c. visit-start (search needs))  -- loop-holds
     (λ c κs. search needs)  -- lowest-requires
     (λ c κs. below-32 c)  -- remove-requires
@@ -51,7 +51,7 @@ classify-spec =
     let l = c .before .before .before in
     let b = c .before .is-late2 in
     checked-of (l .before .before .before .before .before .pre) NotMinimal
-    (late (l .before .before .before), not-minimal (l .lowest .result) (member l) (c .before .before .remove .ensures) (late-yes (b .result) (b .ensures) (c .if2 .taken))))  -- returns-2
+    (late (l .before .before .before), not-minimal (l .lowest .result) (member l) (c .before .before .remove .ensures) (says-yes (b .result) _ (b .ensures) (c .if2 .taken))))  -- returns-2
     (λ c κs. below-32 (c .before .before .before))  -- remove-requires-2
     (λ c.
     let l = c .before .before .before .before in
@@ -61,7 +61,7 @@ classify-spec =
     let q = c .before .before .before .remove in
     let b = c .before .before .is-late2 in
     visit-next (l .before .before .loop .inv) (search needs) (l .lowest .ensures) (c .remove2 .ensures)
-    (needed-if (l .before .before .before .before .before .args .set) (l .lowest .result) (q .result) (q .ensures) (late-no (b .result) (b .ensures) (c .before .if2 .left))))  -- loop-again
+    (needed-if (l .before .before .before .before .before .args .set) (l .lowest .result) (q .result) (q .ensures) (says-no (b .result) _ (b .ensures) (c .before .if2 .left))))  -- loop-again
     (λ c.
     checked-of (c .before .before .before .before .pre) MinimalConflict
     (record { late = late (c .before .before); needed = λ k u. visit-end (c .before .loop .inv) (search needs) k u u })))  -- returns-3

@@ -8,7 +8,7 @@ use Rattle.mask.specs.Mask.{has}
 use Rattle.mask.proofs.Laws.{remove-subset}
 use Rattle.mask.proofs.Visit.{visit-member, visit-less}
 use Rattle.schedule.specs.Arrays.{tasksOf}
-use Rattle.schedule.proofs.LateSets.{late-yes, late-no}
+use Rattle.schedule.proofs.Says.{says-yes, says-no}
 use Rattle.schedule.proofs.TasksOfArrays.{valid-of, constrained-of, task-of, with-subset}
 use Rattle.conflict.proofs.Findings.{needed-if}
 use Rattle.conflict.proofs.ExtractLoop.{Dropping, dropping-start, dropping-keep, dropping-drop, dropping-end}
@@ -51,8 +51,8 @@ extract-spec =
     let inv = l .before .before .loop .inv in
     let p = l .before .before .before .pre .0 in
     ⊎-elim
-    (λ w. rw (w .1) (dropping-drop inv (search needs) (l .lowest .ensures) (c .remove2 .ensures) (valid-of p) (constrained-of p) (q .ensures) (late-yes (b .result) (b .ensures) (w .0 .taken))))
+    (λ w. rw (w .1) (dropping-drop inv (search needs) (l .lowest .ensures) (c .remove2 .ensures) (valid-of p) (constrained-of p) (q .ensures) (says-yes (b .result) _ (b .ensures) (w .0 .taken))))
     (λ w. rw (w .1) (dropping-keep inv (search needs) (l .lowest .ensures) (c .remove2 .ensures)
-    (needed-if (l .before .before .loop .kept) (l .lowest .result) (q .result) (q .ensures) (late-no (b .result) (b .ensures) (w .0 .left)))))
+    (needed-if (l .before .before .loop .kept) (l .lowest .result) (q .result) (q .ensures) (says-no (b .result) _ (b .ensures) (w .0 .left)))))
     (c .before .if1 .came))  -- loop-again
     (λ c. dropping-end (c .before .loop .inv) (search needs)))  -- returns

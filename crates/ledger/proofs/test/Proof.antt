@@ -9,7 +9,7 @@ use Rattle.mask.specs.Mask.{has}
 use Rattle.schedule.specs.Periodic.{LateSet}
 use Rattle.schedule.specs.Arrays.{tasksOf}
 use Rattle.schedule.specs.Response.{lateTest}
-use Rattle.schedule.proofs.LateSets.{late-yes, late-no}
+use Rattle.schedule.proofs.Says.{says-yes, says-no}
 use Rattle.conflict.proofs.Counting.{late-is}
 use Rattle.ledger.specs.Ledger.{knownAfter}
 use Rattle.ledger.proofs.Growth.{covered-yes, covered-no}
@@ -23,7 +23,7 @@ by-test : (c : tie.After-is-late) → let z = c .before .before .before .args in
 by-test c = late-is (c .before .before .before .pre .0) (c .is-late .result) (c .is-late .ensures .0)
 
 late : (c : tie.Else1) → let z = c .before .before .before .before .args in LateSet (tasksOf (z .n) (z .timing .now)) (has (z .set))
-late c = let b = c .before .is-late in late-yes (b .result) (b .ensures .0) (not-false (b .result) (c .if1 .left))
+late c = let b = c .before .is-late in says-yes (b .result) _ (b .ensures .0) (not-false (b .result) (c .if1 .left))
 
 -- it is late, and conflicts are listed
 both : (c : tie.Else2) → let b = c .before .before .before in (b .is-late .result ≡ true) × (b .before .before .before .args .mode .listing ≡ true)
@@ -48,7 +48,7 @@ test-spec =
     let a = z .args in
     let w = z .pre .1 in
     let no = not-true (b .result) (c .if1 .taken) in (
-      unchanged w _ _ (test-is w _ _ (sym no ∙ by-test (c .before)) refl refl refl) (in-time w (a .mode .listing) (a .set) (late-no (b .result) (b .ensures .0) no)),
+      unchanged w _ _ (test-is w _ _ (sym no ∙ by-test (c .before)) refl refl refl) (in-time w (a .mode .listing) (a .set) (says-no (b .result) _ (b .ensures .0) no)),
       b .ensures .1,
       known-asked w _ _ (by-test (c .before)) _ (rw no refl) (b .ensures .2),
     ))  -- returns

@@ -4,8 +4,10 @@ use Prim.Native.Nat.{_+_, _-_, _*_, _≤_}
 use native.Mathlib.Omega.{arith}
 use borrow.Author.Needs.{needs}
 use lib.ListN.{length}
-use Rattle.text.specs.Text.{pieces, Put}
-use Rattle.text.proofs.Laws.{put-none, put-then, put-more}
+use Rattle.wire.specs.Wire.{Put}
+use Rattle.text.specs.Text.{pieces}
+use Rattle.wire.proofs.Put.{put-then}
+use Rattle.text.proofs.Laws.{put-none, put-more}
 use Rattle.lines.specs.Lines.{member}
 use Rattle.lines.proofs.conflict_line.Statement.{statement}
 use Rattle.lines.proofs.conflict_line.Tie as tie

@@ -1,7 +1,7 @@
 -- `pair_line` meets its contract: two items and LF.
 use native.Mathlib.Omega.{arith}
 use borrow.Author.Needs.{needs}
-use Rattle.text.proofs.Laws.{put-then}
+use Rattle.wire.proofs.Put.{put-then}
 use Rattle.lines.proofs.pair_line.Statement.{statement}
 use Rattle.lines.proofs.pair_line.Tie as tie
 

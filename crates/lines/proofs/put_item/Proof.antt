@@ -1,7 +1,8 @@
 -- `put_item` meets its contract.
 use native.Mathlib.Omega.{arith}
 use borrow.Author.Needs.{needs}
-use Rattle.text.proofs.Laws.{put-then, put-few}
+use Rattle.wire.proofs.Put.{put-then}
+use Rattle.text.proofs.Laws.{put-few}
 use Rattle.lines.proofs.put_item.Statement.{statement}
 use Rattle.lines.proofs.put_item.Tie as tie
 

@@ -1,7 +1,8 @@
 -- `put_member` meets its contract: a task is below 32, so that it has two digits at most.
 use native.Mathlib.Omega.{arith}
 use borrow.Author.Needs.{needs}
-use Rattle.text.proofs.Laws.{put-nothing, decimal-two}
+use Rattle.wire.proofs.Put.{put-nothing}
+use Rattle.text.proofs.Laws.{decimal-two}
 use Rattle.lines.proofs.Laws.{member-is}
 use Rattle.lines.proofs.put_member.Statement.{statement}
 use Rattle.lines.proofs.put_member.Tie as tie

@@ -33,8 +33,12 @@ step-spec =
     let a = h .before .before .before .before in
     let p = a .pre in
     let r = h .attempt .result in
-    let b = below a in
-    (omega (arith, b .0), b .1, trial-enough (p .0 .1) (p .0 .2) (a .args .k) (a .args .p) (p .1) (p .2) (r .allowed) (r .added) (rw (h .attempt .ensures) (trial-right (p .0 .1) (p .0 .2) (a .args .k) (a .args .p) (p .1) (p .2)))))  -- follow-requires
+    let b = below a in (
+      omega (arith, b .0),
+      b .1,
+      trial-enough (p .0 .1) (p .0 .2) (a .args .k) (a .args .p) (p .1) (p .2) (r .allowed) (r .added)
+          (rw (h .attempt .ensures) (trial-right (p .0 .1) (p .0 .2) (a .args .k) (a .args .p) (p .1) (p .2))),
+    ))  -- follow-requires
     (λ c.
     let h = c .before .before .before in
     let a = h .before .before .before .before in

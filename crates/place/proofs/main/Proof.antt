@@ -6,8 +6,8 @@ use borrow.Author.Needs.{needs}
 use Prim.Native.Nat.{ℕ, _≤_}
 use lib.ListN.{length}
 use lib.Seq.{length-take-le}
-use Rattle.text.specs.Text.{Put}
-use Rattle.text.proofs.Laws.{put-length}
+use Rattle.wire.specs.Wire.{Put}
+use Rattle.wire.proofs.Put.{put-length}
 use Rattle.place.proofs.main.Statement.{statement}
 use Rattle.place.proofs.main.Tie as tie
 

@@ -54,11 +54,13 @@ load-on-spec =
     (λ c.
     let l = c .before .before in
     let h = l .before .before .before .before .pre .0 in
+    let t = l .before .before .before .before .args .table in
     let k = l .before .loop .k in
     ⊎-elim
     (λ w.
     rw (ap (λ (x : Load). x .0) (w .4) ∙ w .3 .ensures)
-    (summing-in (l .before .loop .inv) (of-table l) (rw (lt-ltb _ _ (l .loop-test .taken), eq-eqb _ _ (w .0 .taken)) refl) refl (omega (arith, work-le (getD (l .before .before .before .before .args .table .tasks .c) k 0) (getD (l .before .before .before .before .args .table .tasks .t) k 0) (l .before .before .before .before .args .table .hyperperiod) (work-in-period h k (of-table l)), h .hyperperiod-most))))
+    (summing-in (l .before .loop .inv) (of-table l) (rw (lt-ltb _ _ (l .loop-test .taken), eq-eqb _ _ (w .0 .taken)) refl) refl
+    (omega (arith, work-le (getD (t .tasks .c) k 0) (getD (t .tasks .t) k 0) (t .hyperperiod) (work-in-period h k (of-table l)), h .hyperperiod-most))))
     (λ w. rw (w .1) (summing-out (l .before .loop .inv) (of-table l) (rw (lt-ltb _ _ (l .loop-test .taken), ne-eqb _ _ (w .0 .left)) refl)))
     (c .if1 .came))  -- loop-again
     (λ c.

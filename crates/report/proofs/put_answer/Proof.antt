@@ -7,9 +7,9 @@ use native.Mathlib.Omega.{arith}
 use borrow.Author.Needs.{needs}
 use lib.ListN.{length, take, drop, length-drop}
 use lib.Seq.{take-all}
-use Rattle.wire.specs.Wire.{markAt}
-use Rattle.text.specs.Text.{ascii, Put}
-use Rattle.text.proofs.Laws.{put-then}
+use Rattle.wire.specs.Wire.{markAt, Put}
+use Rattle.text.specs.Text.{ascii}
+use Rattle.wire.proofs.Put.{put-then}
 use Rattle.report.specs.Report.{headLines, conflictLines, answerLines}
 use Rattle.report.proofs.put_answer.Statement.{statement}
 use Rattle.report.proofs.put_answer.Tie as tie

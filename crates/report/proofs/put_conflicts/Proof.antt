@@ -4,7 +4,8 @@ use Prim.Native.Nat.{_+_, _*_, _-_, _≤_}
 use native.Mathlib.Omega.{arith}
 use borrow.Author.Needs.{needs}
 use lib.ListN.{length}
-use Rattle.text.specs.Text.{pieces, Put}
+use Rattle.wire.specs.Wire.{Put}
+use Rattle.text.specs.Text.{pieces}
 use Rattle.text.proofs.Laws.{put-none, put-more}
 use Rattle.answer.specs.Answer.{maskAt}
 use Rattle.lines.specs.Lines.{conflictLine}

@@ -5,7 +5,8 @@ use native.Mathlib.Omega.{arith}
 use borrow.Author.Needs.{needs}
 use lib.ListN.{length}
 use Rattle.rules.proofs.Bounds.{some-tick}
-use Rattle.text.specs.Text.{pieces, Put}
+use Rattle.wire.specs.Wire.{Put}
+use Rattle.text.specs.Text.{pieces}
 use Rattle.text.proofs.Laws.{put-none, put-more}
 use Rattle.lines.specs.Lines.{loadLine}
 use Rattle.report.specs.Report.{thousandths}
@@ -49,5 +50,7 @@ put-loads-spec =
     (λ c. let l = c .before .before in
     let w = l .before .before .before .before in
     let all : l .loop .p ≡ w .args .table .processors .count = omega (arith, c .if1 .left, l .loop .inv .0) in
-    let a = w .args in
-    (subst (λ (n : ℕ). Put (a .text .now) (a .at) (pieces n (λ j. loadLine j (thousandths (a .table) (a .placement .now) j))) (l .loop .text) (l .loop .end)) all (l .loop .inv .3), omega (arith, l .loop .inv .0, l .loop .inv .1, w .pre .1 .processors .most))))  -- returns
+    let a = w .args in (
+      subst (λ (n : ℕ). Put (a .text .now) (a .at) (pieces n (λ j. loadLine j (thousandths (a .table) (a .placement .now) j))) (l .loop .text) (l .loop .end)) all (l .loop .inv .3),
+      omega (arith, l .loop .inv .0, l .loop .inv .1, w .pre .1 .processors .most),
+    )))  -- returns

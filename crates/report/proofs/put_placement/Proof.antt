@@ -1,7 +1,7 @@
 -- `put_placement` meets its contract: the lines of the tasks, then those of the processors.
 use native.Mathlib.Omega.{arith}
 use borrow.Author.Needs.{needs}
-use Rattle.text.proofs.Laws.{put-then}
+use Rattle.wire.proofs.Put.{put-then}
 use Rattle.report.proofs.put_placement.Statement.{statement}
 use Rattle.report.proofs.put_placement.Tie as tie
 

@@ -1,10 +1,11 @@
 -- `put_digits` meets its contract: the last digit stands behind those of a tenth of the number.
-use Prim.Native.Nat.{ℕ, _+_, _-_, _/_, _%_, _<_}
+use Prim.Native.Nat.{ℕ, _+_, _-_, _%_, _<_}
 use native.Mathlib.Omega.{arith}
 use borrow.Author.Needs.{needs}
 use borrow.Fn.Kinds.{In}
 use borrow.Fn.PlainCycle.{Measures, is, falls, and}
-use Rattle.text.proofs.Laws.{put-nothing, put-then, put-byte, put-length, digits-none, digits-one, digits-more, put-few}
+use Rattle.wire.proofs.Put.{put-nothing, put-then, put-byte, put-length}
+use Rattle.text.proofs.Laws.{digits-none, digits-one, digits-more, put-few}
 use Rattle.text.proofs.put_digits.Reads as put-digits
 use Rattle.text.proofs.put_digits.Kinds as put-digits-kinds
 use Rattle.text.proofs.+put_digits.Lts-put_digits as put-digits-lts

@@ -6,7 +6,7 @@ use borrow.Author.Count.{below-more}
 use Rattle.table.specs.declared.Table.{Table}
 use Rattle.twin.specs.Twin.{Interchangeable}
 use Rattle.twin.specs.Asks.{Asks}
-use Rattle.twin.proofs.Asking.{says-yes, says-no}
+use Rattle.schedule.proofs.Says.{says-yes, says-no}
 use Rattle.twin.proofs.twin.Statement.{statement}
 use Rattle.twin.proofs.twin.Tie as tie
 
