@@ -1,5 +1,4 @@
 -- The tests are made one after the other, and the first that passes decides.
-use mathlib.Core.Path.{sym, _∙_}
 use borrow.Author.Needs.{needs}
 use borrow.Author.Tests.{eq-eqb, ne-eqb}
 use Rattle.pairs.specs.Pairs.{apart}
@@ -16,15 +15,15 @@ apart-spec =
     (λ c. search needs)  -- index-1-has
     (λ c. search needs)  -- index-2-has
     (λ c κs. search needs)  -- has-requires
-    (λ c. let h = c .before in rw (ne-eqb _ _ (h .before .before .if1 .left), sym (h .has .ensures) ∙ c .if2 .taken))  -- returns-2
+    (λ c. let h = c .before in rw (ne-eqb _ _ (h .before .before .if1 .left), rw (h .has .ensures) at (c .if2 .taken)))  -- returns-2
     (λ c κs. search needs)  -- nowhere-requires
     (λ c.
     let e = c .before .before in
     let h = e .before in
-    rw (ne-eqb _ _ (h .before .before .if1 .left), sym (h .has .ensures) ∙ e .if2 .left, sym (c .before .nowhere .ensures) ∙ c .if3 .taken))  -- returns-3
+    rw (ne-eqb _ _ (h .before .before .if1 .left), rw (h .has .ensures) at (e .if2 .left), rw (c .before .nowhere .ensures) at (c .if3 .taken)))  -- returns-3
     (λ c κs. search needs)  -- late-pair-requires
     (λ c.
     let l = c .before in
     let e = l .before .before in
     let h = e .before in
-    rw (ne-eqb _ _ (h .before .before .if1 .left), sym (h .has .ensures) ∙ e .if2 .left, sym (l .before .nowhere .ensures) ∙ l .if3 .left) (c .late-pair .ensures)))  -- returns-4
+    rw (ne-eqb _ _ (h .before .before .if1 .left), rw (h .has .ensures) at (e .if2 .left), rw (l .before .nowhere .ensures) at (l .if3 .left)) (c .late-pair .ensures)))  -- returns-4

@@ -1,5 +1,4 @@
 -- The processors are tried one by one.
-use mathlib.Core.Path.{sym, _∙_}
 use Prim.Native.Nat.{_-_}
 use borrow.Author.Needs.{needs}
 use Rattle.finite.proofs.Search.{Searched, search-start, search-next, some-found, some-missed}
@@ -22,8 +21,8 @@ nowhere-spec =
     μ-loop
     (λ c. search-start)  -- loop-holds
     (λ c κs. search needs)  -- takes-both-requires
-    (λ c. let t = c .before in rw (some-found (t .before .before .loop .inv) (t .before .loop-test .taken) (sym (t .takes-both .ensures) ∙ c .if1 .taken)))  -- returns
+    (λ c. let t = c .before in rw (some-found (t .before .before .loop .inv) (t .before .loop-test .taken) (rw (t .takes-both .ensures) at (c .if1 .taken))))  -- returns
     (λ c. search needs)  -- add-p
     (λ c. search needs)  -- loop-less
-    (λ c. let t = c .before in search-next (t .before .before .loop .inv) (t .before .loop-test .taken) (sym (t .takes-both .ensures) ∙ c .if1 .left))  -- loop-again
+    (λ c. let t = c .before in search-next (t .before .before .loop .inv) (t .before .loop-test .taken) (rw (t .takes-both .ensures) at (c .if1 .left)))  -- loop-again
     (λ c. rw (some-missed (c .before .loop .inv) (c .loop-test .left))))  -- returns-2

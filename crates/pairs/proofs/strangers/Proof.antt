@@ -1,6 +1,6 @@
 -- The tasks are tried one by one, and those that stand apart are counted.
 use mathlib.Core.Logic.{⊎-elim}
-use mathlib.Core.Path.{refl, sym, _∙_}
+use mathlib.Core.Path.{refl}
 use Prim.Native.Nat.{_-_}
 use native.Mathlib.Omega.{arith}
 use borrow.Author.Needs.{needs}
@@ -31,7 +31,7 @@ strangers-spec =
     let a = c .before in
     let l = a .before in
     ⊎-elim
-    (λ w. rw (w .1) (summing-in (l .before .loop .inv) (l .loop-test .taken) (sym (a .apart .ensures) ∙ w .0 .taken) refl (omega arith)))
-    (λ w. rw (w .1) (summing-out (l .before .loop .inv) (l .loop-test .taken) (sym (a .apart .ensures) ∙ w .0 .left)))
+    (λ w. rw (w .1) (summing-in (l .before .loop .inv) (l .loop-test .taken) (rw (a .apart .ensures) at (w .0 .taken)) refl (omega arith)))
+    (λ w. rw (w .1) (summing-out (l .before .loop .inv) (l .loop-test .taken) (rw (a .apart .ensures) at (w .0 .left))))
     (c .if1 .came))  -- loop-again
     (λ c. (summing-end (c .before .loop .inv) (c .loop-test .left), search needs)))  -- returns
