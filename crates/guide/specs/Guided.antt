@@ -1,4 +1,4 @@
--- What is known of the rows that guide the search.
+-- What the search needs of the rows that guide it.
 use mathlib.Core.Path.{_≡_}
 use mathlib.Core.Logic.{_≢_}
 use mathlib.Core.List.{List, []}

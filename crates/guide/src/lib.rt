@@ -1,18 +1,20 @@
-// The weights that guide the search: how large each task is, and how hard to place.
-ghost use Prim.Native.Nat.{ℕ, _≤_, _<_};
-ghost use lib.ListN.{getD};
+// The rows that guide the search: how large each task is, the tasks in that order, and how hard each is to place.
+// No answer rests on these numbers, only how long the search takes.
+ghost use mathlib.Core.Path.{_≡_};
+ghost use Prim.Native.Nat.{_≤_, _<_, min};
+ghost use lib.Dec.{ltb};
+ghost use Rattle.finite.specs.Finite.{only};
 ghost use Rattle.schedule.specs.Arrays.{InLimits};
-ghost use Rattle.guide.specs.Guided.{Guided};
+ghost use Rattle.guide.specs.Guide.{short, sumOf, millionthsOf, weightsOf, scaledOf, bulkOf, densityOf};
+ghost use Rattle.guide.specs.Guide.{messageWeight, messagesWeight, baseOf, basesOf, guidedOf};
 use columns::AMOUNT;
 use columns::BASE;
 use columns::Columns;
-use columns::EXCLUSIONS;
 use columns::LOAD;
 use columns::MEMORY;
 use columns::Messages;
 use columns::ORDER;
 use columns::RECEIVER;
-use columns::RESIDENCE;
 use columns::SENDER;
 use columns::WEIGHT;
 use numbers::wide;
@@ -22,23 +24,23 @@ use schedule::DEADLINE;
 use schedule::Timing;
 use schedule::WORK;
 
-// x as long as it is below 2^40, as every load and every room is.
+// x as long as it is below 2^40, as every load, every memory and every room is.
 fn short(x: u64) -> u64
-    ensures { λ r. ⌜ r < 1099511627776 ⌝ }
+    ensures { λ r. ⌜ r ≡ short x ⌝ }
 {
     x % 1099511627776
 }
 
 // x, but no more than most.
 fn limited(x: u64, most: u64) -> u64
-    ensures { λ r. ⌜ r ≤ most ⌝ }
+    ensures { λ r. ⌜ r ≡ min x most ⌝ }
 {
     if most < x { most } else { x }
 }
 
 // What all processors have together.
 fn sum_of(rooms: [u64; 8]) -> u64
-    ensures { λ r. ⌜ r ≤ 8796093022208 ⌝ }
+    ensures { λ r. ⌜ (r ≡ sumOf rooms) × (r ≤ 8796093022208) ⌝ }
 {
     let mut sum: u64 = 0;
     let mut p: usize = 0;
@@ -52,14 +54,14 @@ fn sum_of(rooms: [u64; 8]) -> u64
 // x in millionths of all.
 fn millionths(x: u64, all: u64) -> u64
     requires { ⌜ all ≤ 8796093022208 ⌝ }
-    ensures { λ r. ⌜ r ≤ 1000000 ⌝ }
+    ensures { λ r. ⌜ (r ≡ millionthsOf x all) × (r ≤ 1000000) ⌝ }
 {
     limited(short(x) * 1000000 / (all + 1), 1000000)
 }
 
 // The millionths of all load and of all memory that each task takes, together.
 fn weights_of(columns: &Columns, s: State) -> [u32; 24]
-    ensures { λ r. ⌜ ((k : ℕ) → getD r k 0 < 4294967296) ⌝ }
+    ensures { λ r. ⌜ r ≡ weightsOf (now (columns .entry)) s ⌝ }
 {
     let memory_rooms = s.memory;
     let load_rooms = s.load;
@@ -70,113 +72,55 @@ fn weights_of(columns: &Columns, s: State) -> [u32; 24]
     while k < 24 {
         let sum = millionths(wide(columns[LOAD][k]), all_load)
             + millionths(wide(columns[MEMORY][k]), all_memory);
-        weights[k] = (sum % 4294967296) as u32;
+        weights[k] = sum as u32;
         k += 1;
     }
     weights
 }
 
-// Whether task j with weight b comes before task k with weight a.
-fn precedes(a: u32, k: usize, b: u32, j: usize) -> bool {
-    if a == b {
-        return j < k;
-    }
-    a < b
+// Millionths of all processors, in 32nds of one.
+fn scaled(part: u64, processors: usize) -> u64
+    requires { ⌜ (part ≤ 1000000) × (processors ≤ 8) ⌝ }
+    ensures { λ r. ⌜ (r ≡ scaledOf part processors) × (r ≤ 256) ⌝ }
+{
+    limited(part * (processors as u64) * 32 / 1000000, 256)
 }
 
-// How many tasks come before task k by falling weight.
-fn rank(weights: &[u32; 24], k: usize) -> usize
-    requires { ⌜ k < 24 ⌝ }
+// The load or the memory of task k, whichever is the larger share.
+fn bulk(columns: &Columns, s: State, processors: usize, k: usize) -> u64
+    requires { ⌜ (processors ≤ 8) × (k < 24) ⌝ }
+    ensures { λ r. ⌜ (r ≡ bulkOf (now (columns .entry)) s processors k) × (r ≤ 256) ⌝ }
 {
-    let mut before: usize = 0;
-    let mut j: usize = 0;
-    while j < 24 {
-        if precedes(weights[k], k, weights[j], j) {
-            before += 1;
-        }
-        j += 1;
+    let memory_rooms = s.memory;
+    let load_rooms = s.load;
+    let by_load = scaled(
+        millionths(wide(columns[LOAD][k]), sum_of(load_rooms)),
+        processors,
+    );
+    let by_memory = scaled(
+        millionths(wide(columns[MEMORY][k]), sum_of(memory_rooms)),
+        processors,
+    );
+    if by_load < by_memory {
+        by_memory
+    } else {
+        by_load
     }
-    before
 }
 
-// Whether tasks i and j may reside on processor p, and it has the memory and the load for both.
-fn takes_both(columns: &Columns, s: State, i: usize, j: usize, p: usize) -> bool
-    requires { ⌜ (i < 24) × (j < 24) × (p < 8) ⌝ }
+// How much of its deadline a task works, in 16ths.
+fn density(work: u32, deadline: u32) -> u64
+    ensures { λ r. ⌜ (r ≡ densityOf work deadline) × (r ≤ 16) ⌝ }
 {
-    if !mask::has(columns[RESIDENCE][i] & columns[RESIDENCE][j], p) {
-        return false;
+    if deadline == 0 {
+        return 16;
     }
-    if s.memory[p] < wide(columns[MEMORY][i]) + wide(columns[MEMORY][j]) {
-        return false;
-    }
-    wide(columns[LOAD][i]) + wide(columns[LOAD][j]) <= s.load[p]
-}
-
-// Whether no processor takes both tasks.
-fn nowhere(columns: &Columns, s: State, processors: usize, i: usize, j: usize) -> bool
-    requires { ⌜ (processors ≤ 8) × (i < 24) × (j < 24) ⌝ }
-{
-    let mut p: usize = 0;
-    while p < processors {
-        if takes_both(columns, s, i, j, p) {
-            return false;
-        }
-        p += 1;
-    }
-    true
-}
-
-// Whether tasks i and j are late as a pair.
-fn late_pair(timing: &Timing, n: usize, i: usize, j: usize) -> bool
-    requires { ⌜ InLimits n (now timing) 0 × (i < n) × (j < n) ⌝ }
-{
-    let pair = mask::insert(mask::insert(0, i), j);
-    schedule::is_late(timing, n, pair)
-}
-
-// Whether i and j are two tasks that can never stand on one processor.
-fn apart<'a>(
-    timing: &'a Timing,
-    columns: &'a Columns,
-    sizes: Sizes,
-    s: State,
-    i: usize,
-    j: usize,
-) -> bool
-    requires { ⌜ InLimits (sizes .tasks) (now timing) 0 × (sizes .processors ≤ 8) × (i < sizes .tasks) × (j < sizes .tasks) ⌝ }
-{
-    if i == j {
-        return false;
-    }
-    if mask::has(columns[EXCLUSIONS][i], j) {
-        return true;
-    }
-    if nowhere(columns, s, sizes.processors, i, j) {
-        return true;
-    }
-    late_pair(timing, sizes.tasks, i, j)
-}
-
-// How many tasks can never stand beside task i.
-fn strangers<'a>(timing: &'a Timing, columns: &'a Columns, sizes: Sizes, s: State, i: usize) -> u64
-    requires { ⌜ InLimits (sizes .tasks) (now timing) 0 × (sizes .processors ≤ 8) × (i < sizes .tasks) ⌝ }
-    ensures { λ r. ⌜ r ≤ 24 ⌝ }
-{
-    let n = sizes.tasks;
-    let mut count: u64 = 0;
-    let mut j: usize = 0;
-    while j < n {
-        if apart(timing, columns, sizes, s, i, j) {
-            count += 1;
-        }
-        j += 1;
-    }
-    count
+    limited(wide(work) * 16 / wide(deadline), 16)
 }
 
 // A message of the task as a share of the network, in 32nds.
 fn message_weight(from: u64, to: u64, task: u64, amount: u64, capacity: u64) -> u64
-    ensures { λ r. ⌜ r ≤ 4096 ⌝ }
+    ensures { λ r. ⌜ (r ≡ messageWeight from to task amount capacity) × (r ≤ 4096) ⌝ }
 {
     if from != task {
         if to != task {
@@ -192,7 +136,7 @@ fn message_weight(from: u64, to: u64, task: u64, amount: u64, capacity: u64) -> 
 // All messages of the task.
 fn messages_weight(messages: &Messages, count: usize, capacity: u64, task: u64) -> u64
     requires { ⌜ count ≤ 64 ⌝ }
-    ensures { λ r. ⌜ r ≤ 262144 ⌝ }
+    ensures { λ r. ⌜ (r ≡ messagesWeight (now (messages .entry)) count capacity task) × (r ≤ 262144) ⌝ }
 {
     let mut sum: u64 = 0;
     let mut j: usize = 0;
@@ -205,41 +149,29 @@ fn messages_weight(messages: &Messages, count: usize, capacity: u64, task: u64) 
     sum
 }
 
-// How much of its deadline a task works, in 16ths.
-fn density(c: u32, d: u32) -> u64
-    ensures { λ r. ⌜ r ≤ 16 ⌝ }
+// How hard task k is to place, where nothing stands yet; 0 beyond the tasks.
+fn base_of<'a>(
+    timing: &'a Timing,
+    columns: &'a Columns,
+    messages: &'a Messages,
+    sizes: Sizes,
+    s: State,
+    k: usize,
+) -> u32
+    requires { ⌜ InLimits (sizes .tasks) (now timing) 0 × (sizes .processors ≤ 8) × (sizes .messages ≤ 64) ⌝ }
+    ensures { λ r. ⌜ r ≡ only (ltb k (sizes .tasks)) (baseOf (now (timing .entry)) (now (columns .entry)) (now (messages .entry)) sizes s k) ⌝ }
 {
-    if d == 0 {
-        return 16;
+    if sizes.tasks <= k {
+        return 0;
     }
-    limited(wide(c) * 16 / wide(d), 16)
+    let others = pairs::strangers(timing, columns, sizes, s, k);
+    let size = bulk(columns, s, sizes.processors, k);
+    let density = density(timing[WORK][k], timing[DEADLINE][k]);
+    let sent = messages_weight(messages, sizes.messages, s.traffic, k as u64);
+    (16 + 16 * others + size + density + sent) as u32
 }
 
-// Millionths of all processors, in 32nds of one.
-fn scaled(part: u64, processors: usize) -> u64
-    requires { ⌜ (part ≤ 1000000) × (processors ≤ 8) ⌝ }
-    ensures { λ r. ⌜ r ≤ 256 ⌝ }
-{
-    limited(part * (processors as u64) * 32 / 1000000, 256)
-}
-
-// The load or the memory of a task, whichever is the larger share.
-fn bulk(load: u32, memory: u32, s: State, processors: usize) -> u64
-    requires { ⌜ processors ≤ 8 ⌝ }
-    ensures { λ r. ⌜ r ≤ 256 ⌝ }
-{
-    let memory_rooms = s.memory;
-    let load_rooms = s.load;
-    let by_load = scaled(millionths(wide(load), sum_of(load_rooms)), processors);
-    let by_memory = scaled(millionths(wide(memory), sum_of(memory_rooms)), processors);
-    if by_load < by_memory {
-        by_memory
-    } else {
-        by_load
-    }
-}
-
-// How hard each task is to place, where nothing stands yet: the search places the hardest first.
+// How hard each task is to place: the search places the hardest first.
 fn bases_of<'a>(
     timing: &'a Timing,
     columns: &'a Columns,
@@ -248,36 +180,19 @@ fn bases_of<'a>(
     s: State,
 ) -> [u32; 24]
     requires { ⌜ InLimits (sizes .tasks) (now timing) 0 × (sizes .processors ≤ 8) × (sizes .messages ≤ 64) ⌝ }
+    ensures { λ r. ⌜ r ≡ basesOf (now (timing .entry)) (now (columns .entry)) (now (messages .entry)) sizes s ⌝ }
 {
-    let n = sizes.tasks;
     let mut bases = [0u32; 24];
     let mut k: usize = 0;
-    while k < n {
-        let others = strangers(timing, columns, sizes, s, k);
-        let size = bulk(columns[LOAD][k], columns[MEMORY][k], s, sizes.processors);
-        let sent = messages_weight(messages, sizes.messages, s.traffic, k as u64);
-        let density = density(timing[WORK][k], timing[DEADLINE][k]);
-        let base = 16 + 16 * others + size + density + sent;
-        bases[k] = (base % 4294967296) as u32;
+    while k < 24 {
+        let base = base_of(timing, columns, messages, sizes, s, k);
+        bases[k] = base;
         k += 1;
     }
     bases
 }
 
-// The tasks by falling weight.
-fn order_of(weights: &[u32; 24]) -> [u32; 24] {
-    let mut order = [0u32; 24];
-    let mut k: usize = 0;
-    while k < 24 {
-        let place = rank(weights, k) % 24;
-        order[place] = k as u32;
-        k += 1;
-    }
-    order
-}
-
-// The columns with the rows that guide the search: how large each task is, the tasks in that order, and how hard each is to place.
-// Nothing is claimed of these numbers: no answer rests on them, only how long the search takes.
+// The columns with the rows that guide the search.
 pub fn guided<'a>(
     timing: &'a Timing,
     columns: &'a Columns,
@@ -286,14 +201,14 @@ pub fn guided<'a>(
     s: State,
 ) -> Columns
     requires { ⌜ InLimits (sizes .tasks) (now timing) 0 × (sizes .processors ≤ 8) × (sizes .messages ≤ 64) ⌝ }
-    ensures { λ r. ⌜ Guided (now (columns .entry)) r ⌝ }
+    ensures { λ r. ⌜ r ≡ guidedOf (now (timing .entry)) (now (columns .entry)) (now (messages .entry)) sizes s ⌝ }
 {
     let weights = weights_of(columns, s);
-    let order = order_of(&weights);
+    let order = ordering::order_of(&weights, &weights);
     let bases = bases_of(timing, columns, messages, sizes, s);
-    let mut rows = *columns;
-    rows[WEIGHT] = weights;
-    rows[ORDER] = order;
-    rows[BASE] = bases;
-    rows
+    let mut filled = *columns;
+    filled[WEIGHT] = weights;
+    filled[ORDER] = order;
+    filled[BASE] = bases;
+    filled
 }

@@ -2,14 +2,16 @@
 use native.Mathlib.Nat.{mul-le-mul}
 use native.Mathlib.Omega.{arith}
 use borrow.Author.Needs.{needs}
+use Rattle.guide.specs.Guide.{scaledOf}
 use Rattle.guide.proofs.scaled.Statement.{statement}
 use Rattle.guide.proofs.scaled.Tie as tie
 
 pub scaled-spec : {M : Type 1} → statement M
+unfolding scaledOf
 scaled-spec =
     tie.close
     (tie.spec
     (λ c. record { fits = omega (arith, mul-le-mul {n₁ = c .args .part} {m₁ = c .args .processors} {n₂ = 1000000} {m₂ = 8} (c .pre .0) (c .pre .1)) })  -- mul-limited
     (λ c. record { fits = omega (arith, mul-le-mul {n₁ = c .args .part} {m₁ = c .args .processors} {n₂ = 1000000} {m₂ = 8} (c .pre .0) (c .pre .1)) })  -- mul-limited-2
     (λ c κs. search needs)  -- limited-requires
-    (λ c. search needs))  -- returns
+    (λ c. (c .limited .ensures, search needs)))  -- returns

@@ -1,23 +1,24 @@
--- The tasks are weighed one by one; a weight is a remainder, so that it fits.
-use mathlib.Core.Path.{_≡_}
-use Prim.Native.Nat.{ℕ, _-_, _%_, _≤_, _<_}
-use native.Mathlib.Omega.{arith}
-use lib.ListN.{length, getD, length-set}
-use Rattle.finite.proofs.Stored.{zeros, set-all}
+-- The tasks are weighed one by one.
+use mathlib.Core.Path.{_∙_}
+use Prim.Native.Nat.{_+_, _-_}
 use borrow.Author.Needs.{needs}
+use borrow.Author.Tests.{lt-ltb}
+use lib.ListN.{getD}
+use Rattle.table.proofs.Filling.{Filled, fill-start, fill-put, fill-end}
+use Rattle.columns.specs.Columns.{loadRow, memoryRow}
+use Rattle.guide.specs.Guide.{millionthsOf, weightsOf}
 use Rattle.guide.proofs.weights_of.Statement.{statement}
 use Rattle.guide.proofs.weights_of.Tie as tie
 
 abbrev Inv-loop : tie.InvT-loop
-Inv-loop columns all-memory all-load weights₀ k₀ weights k = (k ≤ 24) × (length weights ≡ 24) × ((j : ℕ) → getD weights j 0 < 4294967296)
+Inv-loop columns all-memory all-load weights₀ k₀ weights k =
+    Filled 24 24 (λ j. millionthsOf (getD (loadRow columns) j 0) all-load + millionthsOf (getD (memoryRow columns) j 0) all-memory) k weights
 
 abbrev μ-loop : tie.MeasureT-loop
 μ-loop columns all-memory all-load weights₀ k₀ weights k = 24 - k
 
-remainder : (x : ℕ) → x % 4294967296 < 4294967296
-remainder x = omega arith
-
 pub weights-of-spec : {M : Type 1} → statement M
+unfolding weightsOf
 weights-of-spec =
     tie.close
     (tie.spec
@@ -25,7 +26,7 @@ weights-of-spec =
     μ-loop
     (λ c κs. search needs)  -- sum-of-requires
     (λ c κs. search needs)  -- sum-of-requires-2
-    (λ c. (search needs, search needs, λ j. omega (arith, zeros 24 j)))  -- loop-holds
+    (λ c. fill-start _ _ _)  -- loop-holds
     (λ c. search needs)  -- mul-wide
     (λ c. search needs)  -- index-1-wide
     (λ c. search needs)  -- index-2-wide
@@ -43,6 +44,11 @@ weights-of-spec =
     (λ c. search needs)  -- add-k
     (λ c. search needs)  -- loop-less
     (λ c.
-    let l = c .before .before .before .before .before .before .before in
-    (search needs, simp length-set (l .loop .inv .1), set-all (λ j x. x < 4294967296) (l .loop .weights) (l .loop .k) _ (omega (arith, l .loop .inv .1, c .before .before .before .before .before .before .loop-test .taken)) (l .loop .inv .2) (remainder _)))  -- loop-again
-    (λ c. c .before .loop .inv .2))  -- returns
+    let w = c .before in
+    let m = w .before .before in
+    let l = m .before .before .before in
+    fill-put (l .before .loop .inv) (l .loop-test .taken)
+    (rw (lt-ltb _ _ (l .loop-test .taken), m .millionths .ensures .0, m .before .wide .ensures .0, c .millionths2 .ensures .0, w .wide2 .ensures .0)))  -- loop-again
+    (λ c.
+    let s = c .before .before in
+    fill-end (c .before .loop .inv) (c .loop-test .left) ∙ rw (s .sum-of2 .ensures .0, s .before .sum-of .ensures .0)))  -- returns

@@ -4,6 +4,7 @@ use borrow.Author.Needs.{needs}
 use Rattle.partial.proofs.Empty.{started}
 use Rattle.known.proofs.Laws.{knows-start}
 use Rattle.memo.proofs.Laws.{learnt-start}
+use Rattle.guide.proofs.Kept.{guided-rows}
 use Rattle.run.proofs.Running.{lends-table, guide-limits}
 use Rattle.run.proofs.run_table.Statement.{statement}
 use Rattle.run.proofs.run_table.Tie as tie
@@ -29,7 +30,8 @@ run-table-spec =
     let g = c .before .before .before .before .before .before .before in
     let v = g .before .before .before .before in
     let b = v .before .before .before .before .before .before in
-    let l = lends-table (b .pre .0) (v .before .before .before .before .sizes-of .ensures) (v .before .before .before .timing-of .ensures) (v .before .before .columns-of .ensures) (v .before .messages-of .ensures) (g .guided .ensures) in
+    let kept = guided-rows _ _ _ _ _ (g .guided .ensures) in
+    let l = lends-table (b .pre .0) (v .before .before .before .before .sizes-of .ensures) (v .before .before .before .timing-of .ensures) (v .before .before .columns-of .ensures) (v .before .messages-of .ensures) kept in
     ((b .args .table, l, rw (v .start .ensures) (started (b .pre .0 .processors .most)), learnt-start (knows-start _ 16384)), b .pre .1))  -- run-requires
     (λ c. search needs)  -- same-length
     (λ c.
@@ -37,5 +39,6 @@ run-table-spec =
     let g = r .before .before .before .before .before .before .before .before in
     let v = g .before .before .before .before in
     let b = v .before .before .before .before .before .before in
-    let l = lends-table (b .pre .0) (v .before .before .before .before .sizes-of .ensures) (v .before .before .before .timing-of .ensures) (v .before .before .columns-of .ensures) (v .before .messages-of .ensures) (g .guided .ensures) in
+    let kept = guided-rows _ _ _ _ _ (g .guided .ensures) in
+    let l = lends-table (b .pre .0) (v .before .before .before .before .sizes-of .ensures) (v .before .before .before .timing-of .ensures) (v .before .before .columns-of .ensures) (v .before .messages-of .ensures) kept in
     r .run .ensures (b .args .table) l (rw (v .start .ensures) (started (b .pre .0 .processors .most))) (learnt-start (knows-start _ 16384))))  -- returns
