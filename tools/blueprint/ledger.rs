@@ -1,5 +1,6 @@
 //! What is known of sets, and the list of conflicts that a search fills.
 
+use crate::learnt::{COVERED_BITS, HINT_BITS};
 use crate::search::Search;
 use crate::state::State;
 use crate::table::members;
@@ -8,14 +9,7 @@ use crate::table::members;
 pub struct Ledger {
     pub conflicts: Vec<u32>,
     pub places: usize,
-    /// Where the conflict stands that was found last in a set with the same place here.
-    hints: Vec<u32>,
-    /// For a full list: sets, each with one bit below that says whether it holds a listed conflict.
-    covered: Vec<u32>,
 }
-
-const HINT_BITS: u32 = 13;
-const COVERED_BITS: u32 = 16;
 
 /// The place of a set in a table of 2^bits entries.
 fn place_of(set: u32, bits: u32) -> usize {
@@ -24,64 +18,59 @@ fn place_of(set: u32, bits: u32) -> usize {
 
 impl Ledger {
     pub fn new(places: usize) -> Ledger {
-        Ledger {
-            conflicts: Vec::with_capacity(places),
-            places,
-            hints: vec![0; 1 << HINT_BITS],
-            covered: vec![0; 1 << COVERED_BITS],
-        }
+        Ledger { conflicts: Vec::with_capacity(places), places }
     }
 
     pub fn is_full(&self) -> bool {
         self.conflicts.len() == self.places
-    }
-
-    /// Whether a set holds a listed conflict.
-    fn covers(&mut self, set: u32) -> bool {
-        let hint = &mut self.hints[place_of(set, HINT_BITS)];
-        let within = |conflict: &u32| conflict & !set == 0;
-        if self.conflicts.get(*hint as usize).is_some_and(within) {
-            return true;
-        }
-        let found = self.conflicts.iter().position(within);
-        if let Some(number) = found {
-            *hint = number as u32;
-        }
-        found.is_some()
-    }
-
-    /// The same, of a full list: it no longer changes, so that what is said of a set stays true.
-    fn covers_for_good(&mut self, set: u32) -> bool {
-        let place = place_of(set, COVERED_BITS);
-        let entry = self.covered[place];
-        if entry >> 1 == set && set != 0 {
-            return entry & 1 == 1;
-        }
-        let covers = self.covers(set);
-        self.covered[place] = set << 1 | u32::from(covers);
-        covers
     }
 }
 
 impl Search<'_> {
     pub fn is_late(&mut self, set: u32) -> bool {
         let place = place_of(set, self.steps.known_bits());
-        let entry = self.known[place];
+        let entry = self.learnt.known[place];
         if entry >> 1 == set {
             return entry & 1 == 1;
         }
         self.counts.lateness_tests += 1;
         let late = self.table.is_late(set);
-        self.known[place] = set << 1 | u32::from(late);
+        self.learnt.known[place] = set << 1 | u32::from(late);
         late
     }
 
+    /// Whether a set holds a listed conflict.
     fn is_covered(&mut self, set: u32) -> bool {
         if self.steps.covered_sets && self.ledger.is_full() {
-            self.ledger.covers_for_good(set)
+            self.is_covered_for_good(set)
         } else {
-            self.ledger.covers(set)
+            self.is_covered_now(set)
         }
+    }
+
+    /// By a full list: it no longer changes, so that what is said of a set stays true.
+    fn is_covered_for_good(&mut self, set: u32) -> bool {
+        let place = place_of(set, COVERED_BITS);
+        let entry = self.learnt.covered[place];
+        if entry >> 1 == set && set != 0 {
+            return entry & 1 == 1;
+        }
+        let covered = self.is_covered_now(set);
+        self.learnt.covered[place] = set << 1 | u32::from(covered);
+        covered
+    }
+
+    fn is_covered_now(&mut self, set: u32) -> bool {
+        let hint = &mut self.learnt.hints[place_of(set, HINT_BITS)];
+        let within = |conflict: &u32| conflict & !set == 0;
+        if self.ledger.conflicts.get(*hint as usize).is_some_and(within) {
+            return true;
+        }
+        let found = self.ledger.conflicts.iter().position(within);
+        if let Some(number) = found {
+            *hint = number as u32;
+        }
+        found.is_some()
     }
 
     /// Whether a set may not stand on a processor. While conflicts are listed, a late set counts only with a listed

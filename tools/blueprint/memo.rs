@@ -36,13 +36,13 @@ impl Search<'_> {
     /// While conflicts are listed nothing is recalled: what closes a set changes with the list, and the conflicts
     /// would still have to be listed.
     pub fn recalled(&self, key: &Key) -> Option<Best> {
-        let (kept, best) = &self.memo[key.place()];
+        let (kept, best) = &self.learnt.memo[key.place()];
         (!self.listing && kept == key).then_some(*best)
     }
 
     pub fn keep(&mut self, key: Key, best: Best) {
         if !self.listing {
-            self.memo[key.place()] = (key, best);
+            self.learnt.memo[key.place()] = (key, best);
         }
     }
 }

