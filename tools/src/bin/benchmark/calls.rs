@@ -18,7 +18,7 @@ const ROUNDS: usize = 9;
 const CALLS: usize = 20_000;
 
 pub fn calls() {
-    print_row("instance", "answer", "tool", "rust", "ratio");
+    print_row("instance", "answer", &["tool", "rust", "ratio"]);
     let file = encode(&table(&mut Random::new(1), Shape::FULL));
     let read = format!("read a file of {} bytes", file.len());
     beside(&read, &|| tool::read(black_box(&file)), &|| reader::read_code(black_box(&file)));
@@ -63,7 +63,7 @@ fn beside(instance: &str, tool: &dyn Fn() -> u64, rust: &dyn Fn() -> u64) {
 fn beside_in(instance: &str, tests: usize, tool: &dyn Fn() -> u64, rust: &dyn Fn() -> u64) {
     let times: Vec<[Time; 2]> = (0..ROUNDS).map(|_| [took(tool, tests), took(rust, tests)]).collect();
     let [tool, rust] = [0, 1].map(|which| median(&times.iter().map(|pair| pair[which]).collect::<Vec<_>>()));
-    print_row(instance, "", &tool.to_string(), &rust.to_string(), &ratio(tool, rust));
+    print_row(instance, "", &[&tool.to_string(), &rust.to_string(), &ratio(tool, rust)]);
 }
 
 fn took(work: &dyn Fn() -> u64, tests: usize) -> Time {

@@ -2,6 +2,7 @@
 
 use crate::time::{Time, processor_seconds};
 use std::env::current_exe;
+use std::ffi::OsStr;
 use std::fs;
 use std::path::Path;
 use std::process::{Command, Stdio};
@@ -24,11 +25,25 @@ pub struct Outcome {
 
 pub fn by_tool(table: &Path, limit: u64) -> Outcome {
     let itself = current_exe().expect("the path of this program");
-    outcome(Command::new("sh").args(limited(limit)).arg(itself).arg(SEARCH).arg(table), limit)
+    by_program(&[itself.as_os_str(), SEARCH.as_ref(), table.as_os_str()], limit)
 }
 
-pub fn by_program(program: &Path, table: &Path, limit: u64) -> Outcome {
-    outcome(Command::new("sh").args(limited(limit)).arg(program).arg(table), limit)
+/// Runs a program with its arguments. What it prints on its first line is the outcome.
+pub fn by_program(command: &[&OsStr], limit: u64) -> Outcome {
+    outcome(Command::new("sh").args(limited(limit)).args(command), limit)
+}
+
+/// The placement is the first, so that all that ended must name it; the conflicts are free.
+pub fn agree(outcomes: &[&Outcome], table: &str) {
+    let placements: Vec<&String> = outcomes
+        .iter()
+        .filter_map(|outcome| outcome.answer.as_ref())
+        .map(|(placement, _)| placement)
+        .collect();
+    assert!(
+        placements.windows(2).all(|pair| pair[0] == pair[1]),
+        "the placements of {table}: {placements:?}"
+    );
 }
 
 /// The shell's limit is one of processor time, so that other work on the machine stops nothing early.
@@ -42,7 +57,7 @@ fn outcome(command: &mut Command, limit: u64) -> Outcome {
         return Outcome { time: Time::Stopped(limit as f64), answer: None };
     }
     let printed = String::from_utf8(output.stdout).expect("UTF-8");
-    let mut parts = printed.trim_end().splitn(3, ' ').map(str::to_string);
+    let mut parts = printed.lines().next().unwrap_or_default().splitn(3, ' ').map(str::to_string);
     let mut next = || parts.next().expect("a time, a head and an answer in words");
     let seconds = next().parse().expect("seconds");
     Outcome { time: Time::Took(seconds), answer: Some((next(), next())) }

@@ -15,6 +15,10 @@ impl Time {
             Time::Took(seconds) | Time::Stopped(seconds) => seconds,
         }
     }
+
+    pub fn ended(self) -> bool {
+        matches!(self, Time::Took(_))
+    }
 }
 
 impl fmt::Display for Time {
@@ -50,6 +54,12 @@ pub fn median(times: &[Time]) -> Time {
 /// The longest of at least one time.
 pub fn worst(times: &[Time]) -> Time {
     sorted(times)[times.len() - 1]
+}
+
+/// All together; with one that was stopped, no more than a time after which it was not at its end.
+pub fn total(times: &[Time]) -> Time {
+    let seconds = times.iter().map(|time| time.seconds()).sum();
+    if times.iter().all(|time| time.ended()) { Time::Took(seconds) } else { Time::Stopped(seconds) }
 }
 
 fn sorted(times: &[Time]) -> Vec<Time> {
