@@ -14,7 +14,7 @@ use Rattle.mask.specs.Mask.{has, below, Subset, sumOver}
 use Rattle.mask.proofs.Laws.{below-has, has-below, has-and, has-mask, subset-below, sum-wider}
 use Rattle.schedule.specs.Periodic.{Valid, Constrained, LateSet}
 use Rattle.schedule.specs.Response.{share, demand, response}
-use Rattle.schedule.specs.Arrays.{InLimits, SmallShares, higherThan, shareOf, sharesOf, tasksOf, workRow, deadlineRow, priorityRow, higherRow}
+use Rattle.schedule.specs.Arrays.{InLimits, SmallShares, higherThan, shareOf, sharesOf, tasksOf, workRow, periodRow, deadlineRow, priorityRow, higherRow}
 use Rattle.mask.proofs.Tests.{and-left, and-right}
 use Rattle.schedule.proofs.Only.{only-in}
 use Rattle.schedule.proofs.LateSets.{late-set}
