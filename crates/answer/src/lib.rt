@@ -4,7 +4,7 @@ ghost use mathlib.Core.List.{_++_};
 ghost use Prim.Native.Nat.{_+_, _*_, _≤_};
 ghost use lib.ListN.{length, take, drop};
 ghost use Rattle.wire.specs.Wire.{markBytes};
-ghost use Rattle.answer.specs.Answer.{foundHead, noneHead, endBytes, places, laid};
+ghost use Rattle.answer.specs.Answer.{foundHead, noneHead, endBytes, laid};
 
 const AL: [u8; 2] = *b"AL";
 
@@ -58,12 +58,4 @@ pub fn put_end(list: &mut [u8], count: usize, complete: bool)
 {
     let end = 6 * count;
     put_end_first(&mut list[end..], complete);
-}
-
-// How many conflicts an answer of `len` bytes for n tasks has places for.
-pub fn places(len: usize, n: usize) -> usize
-    requires { ⌜ n + 5 ≤ len ⌝ }
-    ensures { λ r. ⌜ r ≡ places n len ⌝ }
-{
-    (len - n - 5) / 6
 }
