@@ -6,7 +6,7 @@ ghost use lib.ListN.{length, take, drop};
 ghost use Rattle.finite.specs.Finite.{firstBelow};
 ghost use Rattle.mask.specs.Mask.{within};
 ghost use Rattle.wire.specs.Wire.{markBytes, laid};
-ghost use Rattle.answer.specs.Answer.{foundHead, noneHead, conflictBytes, endBytes, places, maskAt};
+ghost use Rattle.answer.specs.Answer.{foundHead, noneHead, conflictBytes, endBytes, maskAt};
 
 const AL: [u8; 2] = *b"AL";
 
@@ -94,12 +94,4 @@ pub fn put_end(list: &mut [u8], count: usize, complete: bool)
 {
     let end = 6 * count;
     put_end_first(&mut list[end..], complete);
-}
-
-// How many conflicts an answer of `len` bytes for n tasks has places for.
-pub fn places(len: usize, n: usize) -> usize
-    requires { ⌜ n + 5 ≤ len ⌝ }
-    ensures { λ r. ⌜ r ≡ places n len ⌝ }
-{
-    (len - n - 5) / 6
 }

@@ -11,44 +11,60 @@ use Rattle.table.specs.declared.Table.{Table}
 use Rattle.table.specs.Sound.{Sound}
 use Rattle.timing.specs.Timing.{tasksIn}
 use Rattle.columns.specs.Columns.{exclusionsOf, messagesOf}
-use Rattle.ledger.specs.Ledger.{Ledger, Bad}
-use Rattle.ledger.proofs.Growth.{grows-refl, grows-trans}
+use Rattle.ledger.specs.declared.Mode.{Mode}
+use Rattle.ledger.specs.Ledger.{Ledger, quiet}
+use Rattle.ledger.proofs.Growth.{extended-refl, extended-trans}
+use Rattle.ledger.proofs.Verdicts.{bad-grows}
 use Rattle.partial.specs.declared.State.{State}
-use Rattle.partial.specs.Partial.{Fits}
+use Rattle.region.specs.Begins.{Opens}
 use Rattle.offer.specs.declared.Offered.{Offered}
-use Rattle.offer.specs.Offer.{Choices, OfferedAs}
+use Rattle.offer.specs.Offer.{OfferedAs}
+use Rattle.offer.proofs.Choosing.{choice-map}
 use Rattle.offer.proofs.Fairness.{refuted-fair}
 use Rattle.crossing.specs.Crossing.{crossingOf}
 use Rattle.crossing.proofs.Network.{crossing-fits}
 use Rattle.weighing.specs.declared.Bounded.{Bounded}
 use Rattle.weighing.specs.Bound.{BoundedAs}
+use Rattle.weighing.specs.Weighing.{Weighable}
+
+-- the candidates are there, and stay so while the list grows
+pub offered-weighable : {t : Table} {mode : Mode} {s : State} {old mid : List ℕ} {before : ℕ} → Opens t s old before → (a : Offered) → OfferedAs t mode s old before mid a
+    → Weighable t mode s (a .sets) mid (a .count)
+offered-weighable o a u = record { fits = o .fits; ledger = u .list .ledger; choices = u .choices }
+
+pub weighable-then : {t : Table} {mode : Mode} {s : State} {sets old new : List ℕ} {before : ℕ} → Weighable t mode s sets old before → (b : Bounded) → BoundedAs t mode s old before new b
+    → Weighable t mode s sets new (b .count)
+weighable-then {t} {mode} w b u = record {
+  fits = w .fits;
+  ledger = u .list .ledger;
+  choices = λ p low. choice-map (λ y. bad-grows (tasksIn t) (mode .listing) y (u .list .grows)) (w .choices p low);
+}
 
 -- the network carries less than must cross it
-pub bounded-network : {t : Table} {s : State} {listing : Bool} {places : ℕ} (sets : List ℕ) {list : List ℕ} {count remote : ℕ} → Sound t → Fits t s → Ledger (tasksIn t) places list count
-    → Choices t s (Bad (tasksIn t) listing list count) sets → remote ≡ crossingOf (exclusionsOf t) (messagesOf t) (t .messages .count) s sets (t .processors .count)
-    → BoundedAs t listing places s list count list (record { hopeless = ltb (s .traffic) remote; count = count })
-bounded-network {t} {s} {listing} sets {list} {count} {remote} h f w c e = record {
-  ledger = w;
-  grows = grows-refl;
-  answer = λ o. refuted-fair h listing list count {s = s} (λ q fair. omega (arith, ltb-true (s .traffic) remote o, crossing-fits sets h f c fair));
+pub bounded-network : {t : Table} {mode : Mode} {s : State} (sets : List ℕ) {list : List ℕ} {count remote : ℕ} → Sound t → Weighable t mode s sets list count
+    → remote ≡ crossingOf (exclusionsOf t) (messagesOf t) (t .messages .count) s sets (t .processors .count)
+    → BoundedAs t mode s list count list (record { hopeless = ltb (s .traffic) remote; count = count })
+bounded-network {t} {mode} {s} sets {list} {count} {remote} h w e = record {
+  list = extended-refl (w .ledger);
+  answer = λ o. refuted-fair h (mode .listing) list count {s = s} (λ q fair. omega (arith, ltb-true (s .traffic) remote o, crossing-fits sets h (w .fits) (w .choices) fair));
 }
 
 -- a region that is not given up
-pub bounded-not : {t : Table} {listing : Bool} {places : ℕ} {s : State} {list : List ℕ} {count : ℕ} → Ledger (tasksIn t) places list count
-    → BoundedAs t listing places s list count list (record { hopeless = false; count = count })
-bounded-not w = record { ledger = w; grows = grows-refl; answer = λ e. absurd (false≢true e) }
+pub bounded-not : {t : Table} {mode : Mode} {s : State} {list : List ℕ} {count : ℕ} → Ledger (tasksIn t) list count
+    → BoundedAs t mode s list count list (record { hopeless = false; count = count })
+bounded-not w = record { list = extended-refl w; answer = λ e. absurd (false≢true e) }
 
 -- after the candidates
-pub bounded-from : {t : Table} {listing : Bool} {places : ℕ} {s : State} {old mid new : List ℕ} {before : ℕ} (a : Offered) (b : Bounded) → OfferedAs t listing places s old before mid a
-    → BoundedAs t listing places s mid (a .count) new b → BoundedAs t listing places s old before new b
-bounded-from a b u v = record { ledger = v .ledger; grows = grows-trans (u .grows) (v .grows); answer = v .answer }
+pub bounded-from : {t : Table} {mode : Mode} {s : State} {old mid new : List ℕ} {before : ℕ} (a : Offered) (b : Bounded) → OfferedAs t mode s old before mid a
+    → BoundedAs t mode s mid (a .count) new b → BoundedAs t mode s old before new b
+bounded-from a b u v = record { list = extended-trans (u .list) (v .list); answer = v .answer }
 
-pub bounded-then : {t : Table} {x y : Bool} {places : ℕ} {s : State} {old mid new : List ℕ} {before : ℕ} (a b : Bounded) → BoundedAs t x places s old before mid a → BoundedAs t y places s mid (a .count) new b
-    → BoundedAs t y places s old before new b
-bounded-then a b u v = record { ledger = v .ledger; grows = grows-trans (u .grows) (v .grows); answer = v .answer }
+pub bounded-then : {t : Table} {x y : Mode} {s : State} {old mid new : List ℕ} {before : ℕ} (a b : Bounded) → BoundedAs t x s old before mid a
+    → BoundedAs t y s mid (a .count) new b → BoundedAs t y s old before new b
+bounded-then a b u v = record { list = extended-trans (u .list) (v .list); answer = v .answer }
 
 -- without listing: it is right where no conflicts are listed, or where it does not give the region up
-pub bounded-first : (listing : Bool) {t : Table} {places : ℕ} {s : State} {old new : List ℕ} {before : ℕ} (a : Bounded) → BoundedAs t false places s old before new a → {again : Bool}
-    → (again ≡ a .hopeless) ⊎ (listing ≡ false) → not again ≡ true → BoundedAs t listing places s old before new a
-bounded-first listing {t} {places} {s} {old} {new} {before} a u (inl w) e = record { ledger = u .ledger; grows = u .grows; answer = λ h. absurd (true≢false (sym h ∙ sym w ∙ not-true _ e)) }
-bounded-first listing {t} {places} {s} {old} {new} {before} a u (inr w) e = subst (λ (b : Bool). BoundedAs t b places s old before new a) (sym w) u
+pub bounded-first : {t : Table} (mode : Mode) {s : State} {old new : List ℕ} {before : ℕ} (a : Bounded) → BoundedAs t (quiet (mode .limited)) s old before new a → {again : Bool}
+    → (again ≡ a .hopeless) ⊎ (mode .listing ≡ false) → not again ≡ true → BoundedAs t mode s old before new a
+bounded-first mode a u (inl w) e = record { list = u .list; answer = λ h. absurd (true≢false (sym h ∙ sym w ∙ not-true _ e)) }
+bounded-first {t} mode {s} {old} {new} {before} a u (inr w) e = subst (λ (b : Bool). BoundedAs t (record { listing = b; limited = mode .limited }) s old before new a) (sym w) u

@@ -1,22 +1,23 @@
--- When the bound is tried, and what is noted of it: its credit in place 25, its skips in place 26. No answer rests on them.
+-- When the bound is tried, and what is noted of it: its credit and its skips. No answer rests on them.
 use mathlib.Core.Bool.{Bool, true, false, not, _&&_, _||_, cond}
 use mathlib.Core.List.{List}
 use Prim.Native.Nat.{ℕ, _+_, _-_, _%_}
 use lib.Dec.{eqb, leb, ltb}
 use lib.ListN.{getD, set}
 use Rattle.mask.specs.Mask.{cardinality}
+use Rattle.notes.specs.Notes.{credit, skips}
 
 -- one skip more, of 32
 abbrev pub skipsAfter : ℕ → ℕ
-skipsAfter skips = (skips % 32 + 1) % 32
+skipsAfter before = (before % 32 + 1) % 32
 
 -- the bound is due: four tasks are open or more, and it has credit or was skipped 31 times
 abbrev pub isDue : ℕ → List ℕ → Bool
-isDue left notes = leb 4 (cardinality 32 left) && (not (eqb (getD notes 25 0) 0) || eqb (skipsAfter (getD notes 26 0)) 0)
+isDue left notes = leb 4 (cardinality 32 left) && (not (eqb (getD notes credit 0) 0) || eqb (skipsAfter (getD notes skips 0)) 0)
 
 -- the notes once that was asked: without credit, a skip counts
 unfoldable pub askedNotes : ℕ → List ℕ → List ℕ
-askedNotes left notes = cond (leb 4 (cardinality 32 left) && eqb (getD notes 25 0) 0) (set notes 26 (skipsAfter (getD notes 26 0))) notes
+askedNotes left notes = cond (leb 4 (cardinality 32 left) && eqb (getD notes credit 0) 0) (set notes skips (skipsAfter (getD notes skips 0))) notes
 
 -- the credit after a try, one more than it, 0 where it is used up: a region that was given up counts for 24, up to 400; another costs 1
 abbrev pub creditAfter : ℕ → Bool → ℕ
@@ -25,7 +26,7 @@ creditAfter before false = before - 1
 
 -- the notes after a try, and after the bound
 abbrev pub triedNotes : Bool → List ℕ → List ℕ
-triedNotes hopeless notes = set notes 25 (creditAfter (getD notes 25 0) hopeless)
+triedNotes hopeless notes = set notes credit (creditAfter (getD notes credit 0) hopeless)
 
 unfoldable pub boundNotes : ℕ → Bool → List ℕ → List ℕ
 boundNotes left hopeless notes = cond (isDue left notes) (triedNotes hopeless (askedNotes left notes)) (askedNotes left notes)

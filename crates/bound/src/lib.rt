@@ -1,11 +1,7 @@
 // A bound on the region below a state: the open tasks weigh more than all processors together can take, or the network carries too little.
 ghost use mathlib.Core.Path.{_≡_};
-ghost use Rattle.table.specs.declared.Table.{Table};
-ghost use Rattle.timing.specs.Timing.{tasksIn};
-ghost use Rattle.partial.specs.Partial.{Fits};
-ghost use Rattle.ledger.specs.Ledger.{Ledger};
-ghost use Rattle.region.specs.Lends.{Lends};
-ghost use Rattle.region.specs.Begins.{Begins};
+ghost use Rattle.region.specs.Begins.{Begins, Opens};
+ghost use Rattle.region.specs.Given.{Given, Gives};
 ghost use Rattle.memo.specs.Memo.{Learnt};
 ghost use Rattle.weighing.specs.Bound.{BoundedAs};
 ghost use Rattle.bound.specs.Due.{isDue, askedNotes, creditAfter, triedNotes, boundNotes};
@@ -15,7 +11,9 @@ use columns::Messages;
 use known::Known;
 use ledger::Mode;
 use memo::Memo;
+use notes::CREDIT;
 use notes::Notes;
+use notes::SKIPS;
 use partial::Sizes;
 use partial::State;
 use schedule::Timing;
@@ -34,9 +32,10 @@ fn try_all<'a>(
     known: &mut Known,
     memo: &mut Memo,
 ) -> Bounded
-    requires { ⌜ ((t : Table) × Lends t sizes (now timing) (now columns) (now messages) × Fits t s × Ledger (tasksIn t) (mode .places) (now list) count × Learnt t (now columns) (now known) (now memo)) ⌝ }
-    ensures { λ r. ⌜ ((t : Table) → Lends t sizes (now (timing .entry)) (now (columns .entry)) (now (messages .entry))
-        → Fits t s → Ledger (tasksIn t) (mode .places) (now (list .entry)) count → Learnt t (now (columns .entry)) (now (known .entry)) (now (memo .entry)) → BoundedAs t (mode .listing) (mode .places) s (now (list .entry)) count (now (list .exit)) r × Learnt t (now (columns .entry)) (now (known .exit)) (now (memo .exit))) ⌝ }
+    requires { ⌜ Given sizes (now timing) (now columns) (now messages) (λ t. Opens t s (now list) count) (λ t. Learnt t (now columns) (now known) (now memo)) ⌝ }
+    ensures { λ r. ⌜ Gives sizes (now (timing .entry)) (now (columns .entry)) (now (messages .entry))
+        (λ t. Opens t s (now (list .entry)) count) (λ t. Learnt t (now (columns .entry)) (now (known .entry)) (now (memo .entry)))
+        (λ t. BoundedAs t mode s (now (list .entry)) count (now (list .exit)) r × Learnt t (now (columns .entry)) (now (known .exit)) (now (memo .exit))) ⌝ }
 {
     let offered = offer::offers(
         timing,
@@ -93,11 +92,11 @@ fn due(left: u32, notes: &mut Notes) -> bool
     if u32::count_ones(left) < 4 {
         return false;
     }
-    if notes[25] != 0 {
+    if notes[CREDIT] != 0 {
         return true;
     }
-    let skips = (notes[26] % 32 + 1) % 32;
-    notes[26] = skips;
+    let skips = (notes[SKIPS] % 32 + 1) % 32;
+    notes[SKIPS] = skips;
     skips == 0
 }
 
@@ -121,7 +120,7 @@ fn credit(before: u32, hopeless: bool) -> u32
 fn note(notes: &mut Notes, hopeless: bool)
     ensures { λ _. ⌜ now (notes .exit) ≡ triedNotes hopeless (now (notes .entry)) ⌝ }
 {
-    notes[25] = credit(notes[25], hopeless);
+    notes[CREDIT] = credit(notes[CREDIT], hopeless);
 }
 
 // A bound on the region below a state: whether it can be given up at once, and how many conflicts are listed then.
@@ -139,9 +138,10 @@ pub fn bound<'a>(
     known: &mut Known,
     memo: &mut Memo,
 ) -> Bounded
-    requires { ⌜ ((t : Table) × Lends t sizes (now timing) (now columns) (now messages) × Begins t (mode .listing) (mode .places) s (now list) count × Learnt t (now columns) (now known) (now memo)) ⌝ }
-    ensures { λ r. ⌜ ((t : Table) → Lends t sizes (now (timing .entry)) (now (columns .entry)) (now (messages .entry))
-        → Begins t (mode .listing) (mode .places) s (now (list .entry)) count → Learnt t (now (columns .entry)) (now (known .entry)) (now (memo .entry)) → BoundedAs t (mode .listing) (mode .places) s (now (list .entry)) count (now (list .exit)) r × Learnt t (now (columns .entry)) (now (known .exit)) (now (memo .exit)))
+    requires { ⌜ Given sizes (now timing) (now columns) (now messages) (λ t. Begins t mode s (now list) count) (λ t. Learnt t (now columns) (now known) (now memo)) ⌝ }
+    ensures { λ r. ⌜ Gives sizes (now (timing .entry)) (now (columns .entry)) (now (messages .entry))
+        (λ t. Begins t mode s (now (list .entry)) count) (λ t. Learnt t (now (columns .entry)) (now (known .entry)) (now (memo .entry)))
+        (λ t. BoundedAs t mode s (now (list .entry)) count (now (list .exit)) r × Learnt t (now (columns .entry)) (now (known .exit)) (now (memo .exit)))
         × (now (notes .exit) ≡ boundNotes (s .left) (r .hopeless) (now (notes .entry))) ⌝ }
 {
     if !due(s.left, notes) {
@@ -152,7 +152,6 @@ pub fn bound<'a>(
     }
     let quiet = Mode {
         listing: false,
-        places: mode.places,
         limited: mode.limited,
     };
     let first = try_all(

@@ -3,12 +3,11 @@ ghost use Prim.Native.Nat.{_*_, _<_, _≤_};
 ghost use lib.Dec.{T};
 ghost use lib.ListN.{length};
 ghost use Rattle.mask.specs.Mask.{has};
-ghost use Rattle.table.specs.declared.Table.{Table};
 ghost use Rattle.schedule.specs.Arrays.{tasksOf, InLimits};
 ghost use Rattle.timing.specs.Timing.{tasksIn};
 ghost use Rattle.known.specs.Known.{Knows};
 ghost use Rattle.partial.specs.Partial.{Fits};
-ghost use Rattle.region.specs.Lends.{Lends};
+ghost use Rattle.region.specs.Given.{Given, Gives};
 use columns::BASE;
 use columns::Columns;
 use columns::Messages;
@@ -62,9 +61,9 @@ fn choices<'a>(
     count: usize,
     known: &mut Known,
 ) -> u64
-    requires { ⌜ ((t : Table) × Lends t sizes (now timing) (now columns) (now messages) × Fits t s × Knows (tasksIn t) (now known)) × T (has (s .left) k) × (6 * count ≤ length (now list)) ⌝ }
-    ensures { λ r. ⌜ (r ≤ 8) × ((t : Table) → Lends t sizes (now (timing .entry)) (now (columns .entry)) (now (messages .entry))
-        → Fits t s → Knows (tasksIn t) (now (known .entry)) → Knows (tasksIn t) (now (known .exit))) ⌝ }
+    requires { ⌜ Given sizes (now timing) (now columns) (now messages) (λ t. Fits t s) (λ t. Knows (tasksIn t) (now known)) × T (has (s .left) k) × (6 * count ≤ length (now list)) ⌝ }
+    ensures { λ r. ⌜ (r ≤ 8) × Gives sizes (now (timing .entry)) (now (columns .entry)) (now (messages .entry))
+        (λ t. Fits t s) (λ t. Knows (tasksIn t) (now (known .entry))) (λ t. Knows (tasksIn t) (now (known .exit))) ⌝ }
 {
     let mut found: u64 = 0;
     let mut p: usize = 0;
@@ -100,11 +99,11 @@ pub fn pick<'a>(
     notes: &mut Notes,
     known: &mut Known,
 ) -> usize
-    requires { ⌜ ((t : Table) × Lends t sizes (now timing) (now columns) (now messages) × Fits t s × Knows (tasksIn t) (now known)) × (0 < s .left) × (6 * count ≤ length (now list)) ⌝ }
-    ensures { λ r. ⌜ T (has (s .left) r) × ((t : Table) → Lends t sizes (now (timing .entry)) (now (columns .entry)) (now (messages .entry))
-        → Fits t s → Knows (tasksIn t) (now (known .entry)) → Knows (tasksIn t) (now (known .exit))) ⌝ }
+    requires { ⌜ Given sizes (now timing) (now columns) (now messages) (λ t. Fits t s) (λ t. Knows (tasksIn t) (now known)) × (0 < s .left) × (6 * count ≤ length (now list)) ⌝ }
+    ensures { λ r. ⌜ T (has (s .left) r) × Gives sizes (now (timing .entry)) (now (columns .entry)) (now (messages .entry))
+        (λ t. Fits t s) (λ t. Knows (tasksIn t) (now (known .entry))) (λ t. Knows (tasksIn t) (now (known .exit))) ⌝ }
 {
-    let full = mode.listing && count == mode.places;
+    let full = mode.listing && list.len() < 6 * count + 9;
     let mut best = mask::lowest(s.left);
     let mut least: u64 = 18446744073709551615;
     let mut rest = s.left;

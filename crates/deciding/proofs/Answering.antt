@@ -5,6 +5,7 @@ use mathlib.Core.List.{List}
 use Prim.Native.Nat.{ℕ, _≤_}
 use lib.ListN.{length}
 use Rattle.table.specs.declared.Table.{Table}
+use Rattle.ledger.specs.Ledger.{quiet, lists}
 use Rattle.ledger.proofs.Append.{ledger-start}
 use Rattle.partial.specs.declared.State.{State}
 use Rattle.region.specs.Begins.{Begins, Ready}
@@ -12,11 +13,11 @@ use Rattle.seek.specs.declared.Sought.{Sought}
 use Rattle.seek.specs.Seek.{SoughtIn}
 use Rattle.deciding.specs.Deciding.{AttemptedAs, DecidedAs, CutAs, CoveringAs}
 
--- a list without places
-pub ready-begins : {t : Table} {s : State} {list : List ℕ} → 3 ≤ length list → Ready t s → Begins t false 0 s list 0
+-- a list without room
+pub ready-begins : {t : Table} {limited : Bool} {s : State} {list : List ℕ} → 3 ≤ length list → Ready t s → Begins t (quiet limited) s list 0
 ready-begins l w = record { fits = w .fits; ledger = ledger-start l; clear = w .in-time }
 
-pub attempted : {t : Table} {limited : Bool} {on : ℕ → ℕ → Bool} {old new : List ℕ} {r : Sought} → SoughtIn t false limited 0 on old 0 new r → AttemptedAs t limited on r
+pub attempted : {t : Table} {limited : Bool} {on : ℕ → ℕ → Bool} {old new : List ℕ} {r : Sought} → SoughtIn t (quiet limited) on old 0 new r → AttemptedAs t limited on r
 attempted x = record { placement = x .placement; nothing = x .nothing; certain = x .certain }
 
 -- a run that did not give up
@@ -27,10 +28,10 @@ decided {t} on r x f = go (r .found) refl
     go true e = x .placement e
     go false e = x .nothing (f e)
 
-pub covering : {t : Table} {places : ℕ} {on : ℕ → ℕ → Bool} {old : List ℕ} {before : ℕ} {new : List ℕ} (r : Sought) → SoughtIn t true false places on old before new r
-    → CoveringAs t places on old before new (record { cut = r .found; count = r .count })
-covering {t} {places} {on} {new = new} r x = record { ledger = x .ledger; grows = x .grows; mark = go (r .found) refl }
+pub covering : {t : Table} {on : ℕ → ℕ → Bool} {old : List ℕ} {before : ℕ} {new : List ℕ} (r : Sought) → SoughtIn t lists on old before new r
+    → CoveringAs t on old before new (record { cut = r .found; count = r .count })
+covering {t} {on} {new = new} r x = record { list = x .list; mark = go (r .found) refl }
   where
-    go : (b : Bool) → r .found ≡ b → CutAs b t places on new (r .count)
+    go : (b : Bool) → r .found ≡ b → CutAs b t on new (r .count)
     go true e = (r .on, x .placement e)
     go false e = x .nothing (x .certain refl e)

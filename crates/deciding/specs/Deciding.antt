@@ -6,10 +6,10 @@ use Prim.Native.Nat.{ℕ}
 use Rattle.table.specs.declared.Table.{Table}
 use Rattle.schedule.specs.Periodic.{LateSet}
 use Rattle.timing.specs.Timing.{tasksIn}
-use Rattle.ledger.specs.Ledger.{Ledger, Grows, Covered, Clear}
+use Rattle.ledger.specs.Ledger.{Extended, Covered, Clear}
 use Rattle.region.specs.Region.{Within, Refuted, Met, Witness}
 use Rattle.seek.specs.declared.Sought.{Sought}
-use Rattle.deciding.specs.declared.Covering.{Covering}
+use Rattle.deciding.specs.declared.Listed.{Listed}
 
 -- the answer on the region of `on`: a placement without a late set, or that there is none
 abbrev pub DecidedAs : Bool → Table → (ℕ → ℕ → Bool) → List ℕ → Type 0
@@ -23,12 +23,11 @@ pub record AttemptedAs (t : Table) (limited : Bool) (on : ℕ → ℕ → Bool) 
   pub certain : limited ≡ false → r .found ≡ false → r .none ≡ true
 
 -- the mark of the region: each of its placements holds a listed conflict, or the list is full and one holds none
-abbrev pub CutAs : Bool → Table → ℕ → (ℕ → ℕ → Bool) → List ℕ → ℕ → Type 0
-CutAs false t places on list count = Refuted t (Covered list count) (Within on)
-CutAs true t places on list count = (sets : List ℕ) × Witness t (Clear (tasksIn t) true places list count) on sets
+abbrev pub CutAs : Bool → Table → (ℕ → ℕ → Bool) → List ℕ → ℕ → Type 0
+CutAs false t on list count = Refuted t (Covered list count) (Within on)
+CutAs true t on list count = (sets : List ℕ) × Witness t (Clear (tasksIn t) true list count) on sets
 
 -- what listing a region's conflicts leaves
-pub record CoveringAs (t : Table) (places : ℕ) (on : ℕ → ℕ → Bool) (old : List ℕ) (before : ℕ) (new : List ℕ) (r : Covering) : Type 0 where
-  pub ledger : Ledger (tasksIn t) places new (r .count)
-  pub grows : Grows (Met t (Within on)) old before new (r .count)
-  pub mark : CutAs (r .cut) t places on new (r .count)
+pub record CoveringAs (t : Table) (on : ℕ → ℕ → Bool) (old : List ℕ) (before : ℕ) (new : List ℕ) (r : Listed) : Type 0 where
+  pub list : Extended (Met t (Within on)) (tasksIn t) old before new (r .count)
+  pub mark : CutAs (r .cut) t on new (r .count)

@@ -1,10 +1,9 @@
 // The search of a region, in its two ways: whether it has a placement without a late set; and which conflicts rule out all of its placements.
-ghost use mathlib.Core.Bool.{true};
-ghost use Prim.Native.Nat.{_+_, _≤_};
-ghost use Rattle.table.specs.declared.Table.{Table};
+ghost use Prim.Native.Nat.{_≤_};
 ghost use Rattle.rules.specs.Sets.{standing};
-ghost use Rattle.region.specs.Lends.{Lends};
+ghost use Rattle.ledger.specs.Ledger.{lists};
 ghost use Rattle.region.specs.Begins.{Begins, Ready};
+ghost use Rattle.region.specs.Given.{Given, Gives};
 ghost use Rattle.memo.specs.Memo.{Learnt};
 ghost use Rattle.deciding.specs.Deciding.{AttemptedAs, DecidedAs, CoveringAs};
 use columns::Columns;
@@ -12,6 +11,8 @@ use columns::Messages;
 use known::Known;
 use ledger::Mode;
 use memo::Memo;
+use notes::FUEL;
+use notes::KEPT;
 use notes::Notes;
 use partial::Sizes;
 use partial::State;
@@ -24,8 +25,8 @@ pub struct Decided {
     pub on: [u32; 8],
 }
 
-// How many conflicts are listed then, and whether the list is cut.
-pub struct Covering {
+// Whether the list of conflicts is cut, and how many it has.
+pub struct Listed {
     pub cut: bool,
     pub count: usize,
 }
@@ -35,13 +36,13 @@ fn copy_notes(notes: &mut Notes, from: usize, to: usize)
     requires { ⌜ (from ≤ 32) × (to ≤ 32) ⌝ }
 {
     let mut j: usize = 0;
-    while j < 32 {
+    while j < KEPT {
         notes[to + j] = notes[from + j];
         j += 1;
     }
 }
 
-// One run over the region below a state. It lists nothing: it is lent a list without places.
+// One run over the region below a state. It lists nothing: it is lent a list without room.
 // The notes that it begins with are kept, so that it can be replayed.
 fn attempt<'a>(
     timing: &'a Timing,
@@ -54,15 +55,15 @@ fn attempt<'a>(
     known: &mut Known,
     memo: &mut Memo,
 ) -> Sought
-    requires { ⌜ ((t : Table) × Lends t sizes (now timing) (now columns) (now messages) × Ready t s × Learnt t (now columns) (now known) (now memo)) ⌝ }
-    ensures { λ r. ⌜ ((t : Table) → Lends t sizes (now (timing .entry)) (now (columns .entry)) (now (messages .entry))
-        → Ready t s → Learnt t (now (columns .entry)) (now (known .entry)) (now (memo .entry)) → AttemptedAs t limited (standing (s .on)) r × Learnt t (now (columns .entry)) (now (known .exit)) (now (memo .exit))) ⌝ }
+    requires { ⌜ Given sizes (now timing) (now columns) (now messages) (λ t. Ready t s) (λ t. Learnt t (now columns) (now known) (now memo)) ⌝ }
+    ensures { λ r. ⌜ Gives sizes (now (timing .entry)) (now (columns .entry)) (now (messages .entry))
+        (λ t. Ready t s) (λ t. Learnt t (now (columns .entry)) (now (known .entry)) (now (memo .entry)))
+        (λ t. AttemptedAs t limited (standing (s .on)) r × Learnt t (now (columns .entry)) (now (known .exit)) (now (memo .exit))) ⌝ }
 {
-    copy_notes(notes, 0, 32);
+    copy_notes(notes, 0, KEPT);
     let mut no_list = [0u8; 3];
     let mode = Mode {
         listing: false,
-        places: 0,
         limited,
     };
     seek::seek(
@@ -91,13 +92,14 @@ pub fn decide<'a>(
     known: &mut Known,
     memo: &mut Memo,
 ) -> Decided
-    requires { ⌜ ((t : Table) × Lends t sizes (now timing) (now columns) (now messages) × Ready t s × Learnt t (now columns) (now known) (now memo)) ⌝ }
-    ensures { λ r. ⌜ ((t : Table) → Lends t sizes (now (timing .entry)) (now (columns .entry)) (now (messages .entry))
-        → Ready t s → Learnt t (now (columns .entry)) (now (known .entry)) (now (memo .entry)) → DecidedAs (r .found) t (standing (s .on)) (r .on) × Learnt t (now (columns .entry)) (now (known .exit)) (now (memo .exit))) ⌝ }
+    requires { ⌜ Given sizes (now timing) (now columns) (now messages) (λ t. Ready t s) (λ t. Learnt t (now columns) (now known) (now memo)) ⌝ }
+    ensures { λ r. ⌜ Gives sizes (now (timing .entry)) (now (columns .entry)) (now (messages .entry))
+        (λ t. Ready t s) (λ t. Learnt t (now (columns .entry)) (now (known .entry)) (now (memo .entry)))
+        (λ t. DecidedAs (r .found) t (standing (s .on)) (r .on) × Learnt t (now (columns .entry)) (now (known .exit)) (now (memo .exit))) ⌝ }
 {
     let mut fuel: u32 = 300;
     while fuel < 87000 {
-        notes[27] = fuel;
+        notes[FUEL] = fuel;
         let sought = attempt(
             timing,
             columns,
@@ -144,20 +146,19 @@ pub fn cover<'a>(
     sizes: Sizes,
     s: State,
     list: &mut [u8],
-    places: usize,
     count: usize,
     notes: &mut Notes,
     known: &mut Known,
     memo: &mut Memo,
-) -> Covering
-    requires { ⌜ ((t : Table) × Lends t sizes (now timing) (now columns) (now messages) × Begins t true places s (now list) count × Learnt t (now columns) (now known) (now memo)) ⌝ }
-    ensures { λ r. ⌜ ((t : Table) → Lends t sizes (now (timing .entry)) (now (columns .entry)) (now (messages .entry))
-        → Begins t true places s (now (list .entry)) count → Learnt t (now (columns .entry)) (now (known .entry)) (now (memo .entry)) → CoveringAs t places (standing (s .on)) (now (list .entry)) count (now (list .exit)) r × Learnt t (now (columns .entry)) (now (known .exit)) (now (memo .exit))) ⌝ }
+) -> Listed
+    requires { ⌜ Given sizes (now timing) (now columns) (now messages) (λ t. Begins t lists s (now list) count) (λ t. Learnt t (now columns) (now known) (now memo)) ⌝ }
+    ensures { λ r. ⌜ Gives sizes (now (timing .entry)) (now (columns .entry)) (now (messages .entry))
+        (λ t. Begins t lists s (now (list .entry)) count) (λ t. Learnt t (now (columns .entry)) (now (known .entry)) (now (memo .entry)))
+        (λ t. CoveringAs t (standing (s .on)) (now (list .entry)) count (now (list .exit)) r × Learnt t (now (columns .entry)) (now (known .exit)) (now (memo .exit))) ⌝ }
 {
-    copy_notes(notes, 32, 0);
+    copy_notes(notes, KEPT, 0);
     let mode = Mode {
         listing: true,
-        places,
         limited: false,
     };
     let sought = seek::seek(
@@ -173,7 +174,7 @@ pub fn cover<'a>(
         known,
         memo,
     );
-    Covering {
+    Listed {
         cut: sought.found,
         count: sought.count,
     }

@@ -14,9 +14,10 @@ use Rattle.rules.specs.Placement.{andTask}
 use Rattle.rules.specs.Sets.{standing}
 use Rattle.timing.specs.Timing.{tasksIn}
 use Rattle.timing.proofs.Limits.{valid-tasks, constrained-tasks}
+use Rattle.ledger.specs.declared.Mode.{Mode}
 use Rattle.ledger.specs.declared.Tested.{Tested}
 use Rattle.ledger.specs.Ledger.{Bad, Clear, Verdict, Noted}
-use Rattle.ledger.proofs.Growth.{grows-refl, grows-map}
+use Rattle.ledger.proofs.Growth.{extended-refl, extended-map}
 use Rattle.ledger.proofs.Verdicts.{bad-more, clear-grows}
 use Rattle.partial.specs.declared.State.{State}
 use Rattle.partial.specs.Partial.{Stepped, StepOf}
@@ -37,35 +38,34 @@ other-set on k p r f j = go (eqb j k)
 pub step-allowed : {t : Table} {s : State} {k p : ℕ} (allowed : Bool) {next : State} → StepOf t s k p allowed next → not allowed ≡ false → Stepped t s k p next
 step-allowed {t} {s} {k} {p} allowed {next} f e = subst (λ (a : Bool). StepOf t s k p a next) (not-false allowed e) f
 
-module _ {t : Table} (h : Sound t) {listing : Bool} {places : ℕ} {s : State} {old : List ℕ} {count : ℕ} (b : Begins t listing places s old count) (k p : ℕ) where
+module _ {t : Table} (h : Sound t) {mode : Mode} {s : State} {old : List ℕ} {count : ℕ} (b : Begins t mode s old count) (k p : ℕ) where
   -- the rules do not allow it
-  pub enter-broken : (allowed : Bool) {next : State} → StepOf t s k p allowed next → not allowed ≡ true → EnteredAs t listing places s k p old count old (record { passes = false; next = next; count = count })
+  pub enter-broken : (allowed : Bool) {next : State} → StepOf t s k p allowed next → not allowed ≡ true → EnteredAs t mode s k p old count old (record { passes = false; next = next; count = count })
   enter-broken allowed {next} f e = record {
-    ledger = b .ledger;
-    grows = grows-refl;
-    answer = refuted-broken t (Bad (tasksIn t) listing old count) (andTask (standing (s .on)) k p) (subst (λ (a : Bool). StepOf t s k p a next) (not-true allowed e) f);
+    list = extended-refl (b .ledger);
+    answer = refuted-broken t (Bad (tasksIn t) (mode .listing) old count) (andTask (standing (s .on)) k p) (subst (λ (a : Bool). StepOf t s k p a next) (not-true allowed e) f);
   }
 
   -- they do, and the set was tested
-  module _ {next : State} (step : Stepped t s k p next) {new : List ℕ} (r : Tested) (noted : Noted (tasksIn t) listing places (getD (next .on) p 0) old count new r) where
+  module _ {next : State} (step : Stepped t s k p next) {new : List ℕ} (r : Tested) (noted : Noted (tasksIn t) mode (getD (next .on) p 0) old count new r) where
     met : (c : ℕ) → Subset c (getD (next .on) p 0) → Met t (Within (andTask (standing (s .on)) k p)) c
     met c f = subst (λ (on : ℕ → ℕ → Bool). Met t (Within on) c) (step .on) (met-here h (step .fits .partial) (step .fits .keeps) p f)
 
-    refuted : Bad (tasksIn t) listing new (r .count) (has (getD (next .on) p 0)) → Refuted t (Bad (tasksIn t) listing new (r .count)) (Within (andTask (standing (s .on)) k p))
+    refuted : Bad (tasksIn t) (mode .listing) new (r .count) (has (getD (next .on) p 0)) → Refuted t (Bad (tasksIn t) (mode .listing) new (r .count)) (Within (andTask (standing (s .on)) k p))
     refuted v =
-        refuted-set t (Bad (tasksIn t) listing new (r .count)) (andTask (standing (s .on)) k p) p (bad-more (valid-tasks h) (constrained-tasks h) listing new (r .count))
-        (subst (λ (on : ℕ → ℕ → Bool). Bad (tasksIn t) listing new (r .count) (λ j. on j p)) (step .on) v)
+        refuted-set t (Bad (tasksIn t) (mode .listing) new (r .count)) (andTask (standing (s .on)) k p) p (bad-more (valid-tasks h) (constrained-tasks h) (mode .listing) new (r .count))
+        (subst (λ (on : ℕ → ℕ → Bool). Bad (tasksIn t) (mode .listing) new (r .count) (λ j. on j p)) (step .on) v)
 
-    clear : Clear (tasksIn t) listing places new (r .count) (has (getD (next .on) p 0)) → (q : ℕ) → Dec (q ≡ p) → Clear (tasksIn t) listing places new (r .count) (has (getD (next .on) q 0))
-    clear v q (yes e) = subst (λ (x : ℕ). Clear (tasksIn t) listing places new (r .count) (has (getD (next .on) x 0))) (sym e) v
+    clear : Clear (tasksIn t) (mode .listing) new (r .count) (has (getD (next .on) p 0)) → (q : ℕ) → Dec (q ≡ p) → Clear (tasksIn t) (mode .listing) new (r .count) (has (getD (next .on) q 0))
+    clear v q (yes e) = subst (λ (x : ℕ). Clear (tasksIn t) (mode .listing) new (r .count) (has (getD (next .on) x 0))) (sym e) v
     clear v q (no f) =
-        subst (Clear (tasksIn t) listing places new (r .count))
+        subst (Clear (tasksIn t) (mode .listing) new (r .count))
         (sym (fun-ext (λ j. ap (λ (on : ℕ → ℕ → Bool). on j q) (step .on) ∙ other-set (standing (s .on)) k p q f j)))
-        (clear-grows listing (has (getD (s .on) q 0)) (noted .ledger) (noted .grows) (b .clear q))
+        (clear-grows (mode .listing) (has (getD (s .on) q 0)) (noted .list) (b .clear q))
 
-    answered : (bad : Bool) → Verdict bad (tasksIn t) listing places new (r .count) (has (getD (next .on) p 0)) → EntersAs (not bad) t listing places s k p new (r .count) next
+    answered : (bad : Bool) → Verdict bad (tasksIn t) (mode .listing) new (r .count) (has (getD (next .on) p 0)) → EntersAs (not bad) t mode s k p new (r .count) next
     answered true v = refuted v
-    answered false v = (step, record { fits = step .fits; ledger = noted .ledger; clear = λ q. clear v q (ℕ-discrete q p) })
+    answered false v = (step, record { fits = step .fits; ledger = noted .list .ledger; clear = λ q. clear v q (ℕ-discrete q p) })
 
-    pub enter-tested : EnteredAs t listing places s k p old count new (record { passes = not (r .bad); next = next; count = r .count })
-    enter-tested = record { ledger = noted .ledger; grows = grows-map met (noted .grows); answer = answered (r .bad) (noted .verdict) }
+    pub enter-tested : EnteredAs t mode s k p old count new (record { passes = not (r .bad); next = next; count = r .count })
+    enter-tested = record { list = extended-map met (noted .list); answer = answered (r .bad) (noted .verdict) }

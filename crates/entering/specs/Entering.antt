@@ -6,7 +6,8 @@ use Rattle.table.specs.declared.Table.{Table}
 use Rattle.rules.specs.Placement.{andTask}
 use Rattle.rules.specs.Sets.{standing}
 use Rattle.timing.specs.Timing.{tasksIn}
-use Rattle.ledger.specs.Ledger.{Ledger, Grows, Bad}
+use Rattle.ledger.specs.declared.Mode.{Mode}
+use Rattle.ledger.specs.Ledger.{Extended, Bad}
 use Rattle.partial.specs.declared.State.{State}
 use Rattle.partial.specs.Partial.{Stepped}
 use Rattle.region.specs.Region.{Within, Refuted, Met}
@@ -14,11 +15,10 @@ use Rattle.region.specs.Begins.{Begins}
 use Rattle.entering.specs.declared.Entered.{Entered}
 
 -- the answer on task k on processor p: no placement there, or a state to go on from
-abbrev pub EntersAs : Bool → Table → Bool → ℕ → State → ℕ → ℕ → List ℕ → ℕ → State → Type 0
-EntersAs false t listing places s k p list count next = Refuted t (Bad (tasksIn t) listing list count) (Within (andTask (standing (s .on)) k p))
-EntersAs true t listing places s k p list count next = Stepped t s k p next × Begins t listing places next list count
+abbrev pub EntersAs : Bool → Table → Mode → State → ℕ → ℕ → List ℕ → ℕ → State → Type 0
+EntersAs false t mode s k p list count next = Refuted t (Bad (tasksIn t) (mode .listing) list count) (Within (andTask (standing (s .on)) k p))
+EntersAs true t mode s k p list count next = Stepped t s k p next × Begins t mode next list count
 
-pub record EnteredAs (t : Table) (listing : Bool) (places : ℕ) (s : State) (k p : ℕ) (old : List ℕ) (before : ℕ) (new : List ℕ) (r : Entered) : Type 0 where
-  pub ledger : Ledger (tasksIn t) places new (r .count)
-  pub grows : Grows (Met t (Within (andTask (standing (s .on)) k p))) old before new (r .count)
-  pub answer : EntersAs (r .passes) t listing places s k p new (r .count) (r .next)
+pub record EnteredAs (t : Table) (mode : Mode) (s : State) (k p : ℕ) (old : List ℕ) (before : ℕ) (new : List ℕ) (r : Entered) : Type 0 where
+  pub list : Extended (Met t (Within (andTask (standing (s .on)) k p))) (tasksIn t) old before new (r .count)
+  pub answer : EntersAs (r .passes) t mode s k p new (r .count) (r .next)

@@ -2,11 +2,10 @@
 ghost use Prim.Native.Nat.{_<_};
 ghost use lib.Dec.{T};
 ghost use Rattle.mask.specs.Mask.{has};
-ghost use Rattle.table.specs.declared.Table.{Table};
 ghost use Rattle.timing.specs.Timing.{tasksIn};
 ghost use Rattle.known.specs.Known.{Knows};
-ghost use Rattle.region.specs.Lends.{Lends};
 ghost use Rattle.region.specs.Begins.{Begins};
+ghost use Rattle.region.specs.Given.{Given, Gives};
 ghost use Rattle.entering.specs.Entering.{EnteredAs};
 use columns::Columns;
 use columns::Messages;
@@ -37,9 +36,11 @@ pub fn enter<'a>(
     count: usize,
     known: &mut Known,
 ) -> Entered
-    requires { ⌜ ((t : Table) × Lends t sizes (now timing) (now columns) (now messages) × Begins t (mode .listing) (mode .places) s (now list) count × Knows (tasksIn t) (now known)) × T (has (s .left) k) × (p < sizes .processors) ⌝ }
-    ensures { λ r. ⌜ ((t : Table) → Lends t sizes (now (timing .entry)) (now (columns .entry)) (now (messages .entry))
-        → Begins t (mode .listing) (mode .places) s (now (list .entry)) count → Knows (tasksIn t) (now (known .entry)) → EnteredAs t (mode .listing) (mode .places) s k p (now (list .entry)) count (now (list .exit)) r × Knows (tasksIn t) (now (known .exit))) ⌝ }
+    requires { ⌜ Given sizes (now timing) (now columns) (now messages) (λ t. Begins t mode s (now list) count) (λ t. Knows (tasksIn t) (now known))
+        × T (has (s .left) k) × (p < sizes .processors) ⌝ }
+    ensures { λ r. ⌜ Gives sizes (now (timing .entry)) (now (columns .entry)) (now (messages .entry))
+        (λ t. Begins t mode s (now (list .entry)) count) (λ t. Knows (tasksIn t) (now (known .entry)))
+        (λ t. EnteredAs t mode s k p (now (list .entry)) count (now (list .exit)) r × Knows (tasksIn t) (now (known .exit))) ⌝ }
 {
     let step = partial::step(columns, messages, sizes, s, k, p);
     let next = step.next;

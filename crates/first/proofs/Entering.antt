@@ -8,20 +8,21 @@ use Rattle.schedule.specs.Periodic.{LateSet}
 use Rattle.rules.specs.Placement.{andTask}
 use Rattle.rules.specs.Sets.{standing}
 use Rattle.timing.specs.Timing.{tasksIn}
-use Rattle.ledger.proofs.Growth.{grows-trans}
+use Rattle.ledger.specs.Ledger.{quiet, lists}
+use Rattle.ledger.proofs.Growth.{extended-trans}
 use Rattle.partial.specs.declared.State.{State}
 use Rattle.region.specs.Region.{Within, Refuted}
 use Rattle.region.specs.Begins.{Begins, Ready}
 use Rattle.entering.specs.declared.Entered.{Entered}
 use Rattle.entering.specs.Entering.{EntersAs, EnteredAs}
-use Rattle.deciding.specs.declared.Covering.{Covering}
+use Rattle.deciding.specs.declared.Listed.{Listed}
 use Rattle.deciding.specs.Deciding.{DecidedAs, CoveringAs}
 
-module _ {t : Table} {places : ℕ} {s : State} {k p : ℕ} {old mid : List ℕ} {before : ℕ} (e : Entered) where
+module _ {t : Table} {s : State} {k p : ℕ} {old mid : List ℕ} {before : ℕ} (e : Entered) where
   -- in the way that decides
-  module _ (w : EnteredAs t false places s k p old before mid e) where
-    entered : (b : Bool) → e .passes ≡ b → EntersAs b t false places s k p mid (e .count) (e .next)
-    entered b f = subst (λ (x : Bool). EntersAs x t false places s k p mid (e .count) (e .next)) f (w .answer)
+  module _ {limited : Bool} (w : EnteredAs t (quiet limited) s k p old before mid e) where
+    entered : (b : Bool) → e .passes ≡ b → EntersAs b t (quiet limited) s k p mid (e .count) (e .next)
+    entered b f = subst (λ (x : Bool). EntersAs x t (quiet limited) s k p mid (e .count) (e .next)) f (w .answer)
 
     pub decided-closed : e .passes ≡ false → Refuted t (LateSet (tasksIn t)) (Within (andTask (standing (s .on)) k p))
     decided-closed f = entered false f
@@ -33,17 +34,17 @@ module _ {t : Table} {places : ℕ} {s : State} {k p : ℕ} {old mid : List ℕ}
     decided-open f found sets = subst (λ (on : ℕ → ℕ → Bool). DecidedAs found t on sets) (entered true f .0 .on)
 
   -- in the way that lists
-  module _ (w : EnteredAs t true places s k p old before mid e) where
-    listed : (b : Bool) → e .passes ≡ b → EntersAs b t true places s k p mid (e .count) (e .next)
-    listed b f = subst (λ (x : Bool). EntersAs x t true places s k p mid (e .count) (e .next)) f (w .answer)
+  module _ (w : EnteredAs t lists s k p old before mid e) where
+    listed : (b : Bool) → e .passes ≡ b → EntersAs b t lists s k p mid (e .count) (e .next)
+    listed b f = subst (λ (x : Bool). EntersAs x t lists s k p mid (e .count) (e .next)) f (w .answer)
 
-    pub covering-closed : e .passes ≡ false → CoveringAs t places (andTask (standing (s .on)) k p) old before mid (record { cut = false; count = e .count })
-    covering-closed f = record { ledger = w .ledger; grows = w .grows; mark = listed false f }
+    pub covering-closed : e .passes ≡ false → CoveringAs t (andTask (standing (s .on)) k p) old before mid (record { cut = false; count = e .count })
+    covering-closed f = record { list = w .list; mark = listed false f }
 
-    pub entered-begins : e .passes ≡ true → Begins t true places (e .next) mid (e .count)
+    pub entered-begins : e .passes ≡ true → Begins t lists (e .next) mid (e .count)
     entered-begins f = listed true f .1
 
-    pub covering-open : e .passes ≡ true → {new : List ℕ} (r : Covering) → CoveringAs t places (standing (e .next .on)) mid (e .count) new r → CoveringAs t places (andTask (standing (s .on)) k p) old before new r
+    pub covering-open : e .passes ≡ true → {new : List ℕ} (r : Listed) → CoveringAs t (standing (e .next .on)) mid (e .count) new r → CoveringAs t (andTask (standing (s .on)) k p) old before new r
     covering-open f {new} r x =
-        let y = subst (λ (on : ℕ → ℕ → Bool). CoveringAs t places on mid (e .count) new r) (listed true f .0 .on) x in
-        record { ledger = y .ledger; grows = grows-trans (w .grows) (y .grows); mark = y .mark }
+        let y = subst (λ (on : ℕ → ℕ → Bool). CoveringAs t on mid (e .count) new r) (listed true f .0 .on) x in
+        record { list = extended-trans (w .list) (y .list); mark = y .mark }

@@ -1,20 +1,19 @@
 // The search of document 01 for the first placement: task by task, processors in rising number.
-ghost use mathlib.Core.Bool.{true};
 ghost use Prim.Native.Nat.{_<_};
 ghost use lib.Dec.{T};
 ghost use Rattle.mask.specs.Mask.{has};
-ghost use Rattle.table.specs.declared.Table.{Table};
 ghost use Rattle.rules.specs.Placement.{andTask};
 ghost use Rattle.rules.specs.Sets.{standing};
-ghost use Rattle.region.specs.Lends.{Lends};
+ghost use Rattle.ledger.specs.Ledger.{lists};
 ghost use Rattle.region.specs.Begins.{Begins, Ready};
+ghost use Rattle.region.specs.Given.{Given, Gives};
 ghost use Rattle.deciding.specs.Deciding.{DecidedAs, CoveringAs};
 ghost use Rattle.memo.specs.Memo.{Learnt};
-ghost use Rattle.first.specs.First.{Placing, PassedBelow, TriedAs, FirstOf};
+ghost use Rattle.first.specs.First.{Placing, Trying, TriedAs, FirstOf};
 use columns::Columns;
 use columns::Messages;
-use deciding::Covering;
 use deciding::Decided;
+use deciding::Listed;
 use known::Known;
 use ledger::Mode;
 use memo::Memo;
@@ -23,19 +22,17 @@ use partial::Sizes;
 use partial::State;
 use schedule::Timing;
 
-// A task on a processor: whether it is taken, the sets of a good placement, how many conflicts are listed, and whether the list is cut.
+// A task on a processor: whether it is taken, the sets of a good placement, and what is listed then.
 struct Tried {
     taken: bool,
     on: [u32; 8],
-    count: usize,
-    cut: bool,
+    listed: Listed,
 }
 
-// The sets of the first placement, how many conflicts are listed, and whether the list is cut.
+// The sets of the first placement, and what is listed then.
 pub struct Reached {
     pub on: [u32; 8],
-    pub count: usize,
-    pub cut: bool,
+    pub listed: Listed,
 }
 
 // Whether a good placement has task k on processor p.
@@ -51,15 +48,16 @@ fn decide_on<'a>(
     known: &mut Known,
     memo: &mut Memo,
 ) -> Decided
-    requires { ⌜ ((t : Table) × Lends t sizes (now timing) (now columns) (now messages) × Ready t s × Learnt t (now columns) (now known) (now memo)) × T (has (s .left) k) × (p < sizes .processors) ⌝ }
-    ensures { λ r. ⌜ ((t : Table) → Lends t sizes (now (timing .entry)) (now (columns .entry)) (now (messages .entry))
-        → Ready t s → Learnt t (now (columns .entry)) (now (known .entry)) (now (memo .entry)) → DecidedAs (r .found) t (andTask (standing (s .on)) k p) (r .on) × Learnt t (now (columns .entry)) (now (known .exit)) (now (memo .exit))) ⌝ }
+    requires { ⌜ Given sizes (now timing) (now columns) (now messages) (λ t. Ready t s) (λ t. Learnt t (now columns) (now known) (now memo))
+        × T (has (s .left) k) × (p < sizes .processors) ⌝ }
+    ensures { λ r. ⌜ Gives sizes (now (timing .entry)) (now (columns .entry)) (now (messages .entry))
+        (λ t. Ready t s) (λ t. Learnt t (now (columns .entry)) (now (known .entry)) (now (memo .entry)))
+        (λ t. DecidedAs (r .found) t (andTask (standing (s .on)) k p) (r .on) × Learnt t (now (columns .entry)) (now (known .exit)) (now (memo .exit))) ⌝ }
 {
-    // Deciding lists nothing: it is lent a list without places.
+    // Deciding lists nothing: it is lent a list without room.
     let mut no_list = [0u8; 3];
     let mode = Mode {
         listing: false,
-        places: 0,
         limited: true,
     };
     let entered = entering::enter(
@@ -93,19 +91,19 @@ fn pass_over<'a>(
     k: usize,
     p: usize,
     list: &mut [u8],
-    places: usize,
     count: usize,
     notes: &mut Notes,
     known: &mut Known,
     memo: &mut Memo,
-) -> Covering
-    requires { ⌜ ((t : Table) × Lends t sizes (now timing) (now columns) (now messages) × Begins t true places s (now list) count × Learnt t (now columns) (now known) (now memo)) × T (has (s .left) k) × (p < sizes .processors) ⌝ }
-    ensures { λ r. ⌜ ((t : Table) → Lends t sizes (now (timing .entry)) (now (columns .entry)) (now (messages .entry))
-        → Begins t true places s (now (list .entry)) count → Learnt t (now (columns .entry)) (now (known .entry)) (now (memo .entry)) → CoveringAs t places (andTask (standing (s .on)) k p) (now (list .entry)) count (now (list .exit)) r × Learnt t (now (columns .entry)) (now (known .exit)) (now (memo .exit))) ⌝ }
+) -> Listed
+    requires { ⌜ Given sizes (now timing) (now columns) (now messages) (λ t. Begins t lists s (now list) count) (λ t. Learnt t (now columns) (now known) (now memo))
+        × T (has (s .left) k) × (p < sizes .processors) ⌝ }
+    ensures { λ r. ⌜ Gives sizes (now (timing .entry)) (now (columns .entry)) (now (messages .entry))
+        (λ t. Begins t lists s (now (list .entry)) count) (λ t. Learnt t (now (columns .entry)) (now (known .entry)) (now (memo .entry)))
+        (λ t. CoveringAs t (andTask (standing (s .on)) k p) (now (list .entry)) count (now (list .exit)) r × Learnt t (now (columns .entry)) (now (known .exit)) (now (memo .exit))) ⌝ }
 {
     let mode = Mode {
         listing: true,
-        places,
         limited: false,
     };
     let entered = entering::enter(
@@ -123,7 +121,7 @@ fn pass_over<'a>(
     );
     let next = entered.next;
     if !entered.passes {
-        return Covering {
+        return Listed {
             cut: false,
             count: entered.count,
         };
@@ -135,7 +133,6 @@ fn pass_over<'a>(
         sizes,
         next,
         list,
-        places,
         entered.count,
         notes,
         known,
@@ -156,31 +153,29 @@ fn try_processor<'a>(
     p: usize,
     witness: [u32; 8],
     list: &mut [u8],
-    places: usize,
-    count: usize,
-    cut: bool,
+    listed: Listed,
     notes: &mut Notes,
     known: &mut Known,
     memo: &mut Memo,
 ) -> Tried
-    requires { ⌜ ((t : Table) × Lends t sizes (now timing) (now columns) (now messages) × Placing t places s k witness (now list) count × PassedBelow t s k p (now list) count cut × Learnt t (now columns) (now known) (now memo)) × (k < sizes .tasks) × (p < sizes .processors) ⌝ }
-    ensures { λ r. ⌜ ((t : Table) → Lends t sizes (now (timing .entry)) (now (columns .entry)) (now (messages .entry))
-        → Placing t places s k witness (now (list .entry)) count → PassedBelow t s k p (now (list .entry)) count cut → Learnt t (now (columns .entry)) (now (known .entry)) (now (memo .entry)) → TriedAs t places s k p witness (now (list .entry)) count cut (now (list .exit)) r × Learnt t (now (columns .entry)) (now (known .exit)) (now (memo .exit))) ⌝ }
+    requires { ⌜ Given sizes (now timing) (now columns) (now messages) (λ t. Trying t s k p witness (now list) listed) (λ t. Learnt t (now columns) (now known) (now memo))
+        × (k < sizes .tasks) × (p < sizes .processors) ⌝ }
+    ensures { λ r. ⌜ Gives sizes (now (timing .entry)) (now (columns .entry)) (now (messages .entry))
+        (λ t. Trying t s k p witness (now (list .entry)) listed) (λ t. Learnt t (now (columns .entry)) (now (known .entry)) (now (memo .entry)))
+        (λ t. TriedAs t s k p witness (now (list .entry)) listed (now (list .exit)) r × Learnt t (now (columns .entry)) (now (known .exit)) (now (memo .exit))) ⌝ }
 {
     if mask::has(witness[p], k) {
         return Tried {
             taken: true,
             on: witness,
-            count,
-            cut,
+            listed,
         };
     }
     if twin::twin(columns, s, p) < p {
         return Tried {
             taken: false,
             on: witness,
-            count,
-            cut,
+            listed,
         };
     }
     let decided = decide_on(
@@ -200,19 +195,17 @@ fn try_processor<'a>(
         return Tried {
             taken: true,
             on,
-            count,
-            cut,
+            listed,
         };
     }
-    if cut {
+    if listed.cut {
         return Tried {
             taken: false,
             on: witness,
-            count,
-            cut,
+            listed,
         };
     }
-    let listed = pass_over(
+    let after = pass_over(
         timing,
         columns,
         messages,
@@ -221,8 +214,7 @@ fn try_processor<'a>(
         k,
         p,
         list,
-        places,
-        count,
+        listed.count,
         notes,
         known,
         memo,
@@ -230,8 +222,7 @@ fn try_processor<'a>(
     Tried {
         taken: false,
         on: witness,
-        count: listed.count,
-        cut: listed.cut,
+        listed: after,
     }
 }
 
@@ -245,23 +236,21 @@ pub fn first<'a>(
     k: usize,
     witness: [u32; 8],
     list: &mut [u8],
-    places: usize,
-    count: usize,
-    cut: bool,
+    listed: Listed,
     notes: &mut Notes,
     known: &mut Known,
     memo: &mut Memo,
 ) -> Reached
-    requires { ⌜ ((t : Table) × Lends t sizes (now timing) (now columns) (now messages) × Placing t places s k witness (now list) count × Learnt t (now columns) (now known) (now memo)) ⌝ }
-    ensures { λ r. ⌜ ((t : Table) → Lends t sizes (now (timing .entry)) (now (columns .entry)) (now (messages .entry))
-        → Placing t places s k witness (now (list .entry)) count → Learnt t (now (columns .entry)) (now (known .entry)) (now (memo .entry)) → FirstOf t places s (now (list .entry)) count cut (now (list .exit)) r × Learnt t (now (columns .entry)) (now (known .exit)) (now (memo .exit))) ⌝ }
+    requires { ⌜ Given sizes (now timing) (now columns) (now messages) (λ t. Placing t s k witness (now list) (listed .count)) (λ t. Learnt t (now columns) (now known) (now memo)) ⌝ }
+    ensures { λ r. ⌜ Gives sizes (now (timing .entry)) (now (columns .entry)) (now (messages .entry))
+        (λ t. Placing t s k witness (now (list .entry)) (listed .count)) (λ t. Learnt t (now (columns .entry)) (now (known .entry)) (now (memo .entry)))
+        (λ t. FirstOf t s (now (list .entry)) listed (now (list .exit)) r × Learnt t (now (columns .entry)) (now (known .exit)) (now (memo .exit))) ⌝ }
 {
     let on = s.on;
     if k == sizes.tasks {
-        return Reached { on, count, cut };
+        return Reached { on, listed };
     }
-    let mut at = count;
-    let mut marked = cut;
+    let mut at = listed;
     let mut p: usize = 0;
     while p < sizes.processors {
         let tried = try_processor(
@@ -274,15 +263,12 @@ pub fn first<'a>(
             p,
             witness,
             list,
-            places,
             at,
-            marked,
             notes,
             known,
             memo,
         );
-        at = tried.count;
-        marked = tried.cut;
+        at = tried.listed;
         if tried.taken {
             let step = partial::step(columns, messages, sizes, s, k, p);
             let next = step.next;
@@ -296,9 +282,7 @@ pub fn first<'a>(
                 k + 1,
                 held,
                 list,
-                places,
                 at,
-                marked,
                 notes,
                 known,
                 memo,
@@ -306,9 +290,5 @@ pub fn first<'a>(
         }
         p += 1;
     }
-    Reached {
-        on,
-        count: at,
-        cut: marked,
-    }
+    Reached { on, listed: at }
 }

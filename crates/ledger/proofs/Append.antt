@@ -20,17 +20,16 @@ use Rattle.answer.proofs.Laws.{listing-append, listing-length}
 use Rattle.ledger.specs.Ledger.{masksIn, Covered, Ledger, Grows}
 use Rattle.ledger.proofs.Masks.{masks-long, masks-ext, listing-of}
 
-pub ledger-start : {s : Tasks} {places : ℕ} {list : List ℕ} → 6 * places + 3 ≤ length list → Ledger s places list 0
+pub ledger-start : {s : Tasks} {list : List ℕ} → 3 ≤ length list → Ledger s list 0
 unfolding masksIn records
 ledger-start h = record {
-  room = omega arith;
-  long = h;
+  room = h;
   written = refl;
   minimal = λ j l. absurd (omega arith);
   different = λ i j l. absurd (omega arith);
 }
 
-module _ {s : Tasks} {places count m : ℕ} {list new : List ℕ} (w : Ledger s places list count) (free : count < places) (fits : m < 2 ^ 32)
+module _ {s : Tasks} {count m : ℕ} {list new : List ℕ} (w : Ledger s list count) (free : 6 * count + 9 ≤ length list) (fits : m < 2 ^ 32)
     (e : new ≡ laid (6 * count) (conflictBytes m) list) where
   abbrev front : List ℕ
   front = take (6 * count) list
@@ -88,10 +87,9 @@ module _ {s : Tasks} {places count m : ℕ} {list new : List ℕ} (w : Ledger s 
   }
 
   -- m lies within a set that no conflict of the list lies within
-  pub ledger-append : {set : ℕ} → MinimalWithin s set m → (Covered list count (has set) → ⊥) → Ledger s places new (count + 1)
+  pub ledger-append : {set : ℕ} → MinimalWithin s set m → (Covered list count (has set) → ⊥) → Ledger s new (count + 1)
   ledger-append {set} c uncovered = record {
-    room = omega arith;
-    long = omega (arith, listing-length listing);
+    room = omega (arith, listing-length listing);
     written = listing .holds ∙ ap (λ (rest : List ℕ). records (masksIn new (count + 1)) ++ rest) (rw (masks-long new (count + 1)) (sym rest-stays));
     minimal = λ j l. minimal j l (decLt j count);
     different = λ i j a b q. different i j a b q (decLt i count) (decLt j count);

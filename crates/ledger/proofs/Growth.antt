@@ -2,19 +2,20 @@
 use mathlib.Core.Path.{_≡_, refl, sym, ap, subst, _∙_}
 use mathlib.Core.Bool.{Bool, true, false}
 use mathlib.Core.List.{List}
-use Prim.Native.Nat.{ℕ, _*_, _≤_, _<_}
+use Prim.Native.Nat.{ℕ, _+_, _*_, _≤_, _<_}
 use native.Mathlib.Nat.{le-dest}
 use native.Mathlib.Decide.{decLt}
 use native.Mathlib.Omega.{arith}
-use lib.Dec.{T}
-use lib.ListN.{drop}
+use lib.Dec.{T, ltb→lt}
+use lib.ListN.{length, drop}
 use lib.Seq.{drop-drop}
 use Rattle.finite.specs.Finite.{someBelow}
 use Rattle.finite.proofs.Some.{some-intro, some-elim}
 use Rattle.mask.specs.Mask.{has, within}
 use Rattle.mask.proofs.Laws.{subset-within, within-subset}
+use Rattle.schedule.specs.Periodic.{Tasks}
 use Rattle.answer.specs.Answer.{maskAt}
-use Rattle.ledger.specs.Ledger.{Covered, Grows}
+use Rattle.ledger.specs.Ledger.{Covered, Ledger, full, Grows, Extended}
 
 -- ---- growing
 
@@ -23,10 +24,10 @@ drop-more a b i j l e =
     let k = le-dest l in
     rw (← k .1) (sym (drop-drop (k .0) i a) ∙ ap (drop (k .0)) e ∙ drop-drop (k .0) i b)
 
-pub grows-refl : {P : ℕ → Type 0} {list : List ℕ} {count : ℕ} → Grows P list count list count
+grows-refl : {P : ℕ → Type 0} {list : List ℕ} {count : ℕ} → Grows P list count list count
 grows-refl = record { more = omega arith; stay = λ j l. refl; added = λ j a b. absurd (omega arith); behind = refl; long = refl }
 
-pub grows-trans : {P : ℕ → Type 0} {a b c : List ℕ} {i j k : ℕ} → Grows P a i b j → Grows P b j c k → Grows P a i c k
+grows-trans : {P : ℕ → Type 0} {a b c : List ℕ} {i j k : ℕ} → Grows P a i b j → Grows P b j c k → Grows P a i c k
 grows-trans {P} {a} {b} {c} {i} {j} {k} u v = record {
   more = omega arith;
   stay = λ x l. v .stay x (omega arith) ∙ u .stay x l;
@@ -39,8 +40,23 @@ grows-trans {P} {a} {b} {c} {i} {j} {k} u v = record {
     added x f l (yes e) = rw (v .stay x e) (u .added x f e)
     added x f l (no e) = v .added x (omega arith) l
 
-pub grows-map : {P Q : ℕ → Type 0} {a b : List ℕ} {i j : ℕ} → ((c : ℕ) → P c → Q c) → Grows P a i b j → Grows Q a i b j
+grows-map : {P Q : ℕ → Type 0} {a b : List ℕ} {i j : ℕ} → ((c : ℕ) → P c → Q c) → Grows P a i b j → Grows Q a i b j
 grows-map {b = b} f u = record { more = u .more; stay = u .stay; added = λ x e l. f (maskAt b x) (u .added x e l); behind = u .behind; long = u .long }
+
+-- ---- the list holds, and has grown
+
+pub extended-refl : {P : ℕ → Type 0} {s : Tasks} {list : List ℕ} {count : ℕ} → Ledger s list count → Extended P s list count list count
+extended-refl w = record { ledger = w; grows = grows-refl }
+
+pub extended-trans : {P : ℕ → Type 0} {s : Tasks} {a b c : List ℕ} {i j k : ℕ} → Extended P s a i b j → Extended P s b j c k → Extended P s a i c k
+extended-trans u v = record { ledger = v .ledger; grows = grows-trans (u .grows) (v .grows) }
+
+pub extended-map : {P Q : ℕ → Type 0} {s : Tasks} {a b : List ℕ} {i j : ℕ} → ((c : ℕ) → P c → Q c) → Extended P s a i b j → Extended Q s a i b j
+extended-map f u = record { ledger = u .ledger; grows = grows-map f (u .grows) }
+
+-- a full list cannot grow
+pub full-stays : {P : ℕ → Type 0} {s : Tasks} {a b : List ℕ} {i j : ℕ} → Extended P s a i b j → T (full a i) → i ≡ j
+full-stays {a = a} {i = i} u f = omega (arith, u .ledger .room, u .grows .more, u .grows .long, ltb→lt (length a) (6 * i + 9) f)
 
 -- ---- the sets that the list covers
 

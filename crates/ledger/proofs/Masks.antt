@@ -10,7 +10,7 @@ use Rattle.wire.specs.Wire.{number, bytes, recordBytes}
 use Rattle.wire.proofs.Laws.{bytes-length, bytes-bound, number-lt, number-append, number-behind, record-length}
 use Rattle.schedule.specs.Periodic.{Tasks}
 use Rattle.answer.specs.Answer.{conflictBytes, records, maskAt, Listing}
-use Rattle.ledger.specs.Ledger.{masksIn, Ledger, Grows}
+use Rattle.ledger.specs.Ledger.{masksIn, Ledger, Extended}
 
 pub masks-long : (list : List ℕ) (count : ℕ) → length (masksIn list count) ≡ count
 unfolding masksIn
@@ -55,7 +55,7 @@ record-word (c ∷ cs) rest (suc j) l =
     ∙ number-behind (conflictBytes c) (records cs ++ rest) 6 (6 * j + 2) 4 (record-length (78 ∷ 71 ∷ []) c) in
     rw next (record-word cs rest j (omega arith))
 
-module _ {s : Tasks} {places count : ℕ} {list : List ℕ} (w : Ledger s places list count) where
+module _ {s : Tasks} {count : ℕ} {list : List ℕ} (w : Ledger s list count) where
   pub mask-word : (j : ℕ) → j < count → maskAt list j < 2 ^ 32
   mask-word j l =
       omega (
@@ -79,5 +79,5 @@ module _ {s : Tasks} {places count : ℕ} {list : List ℕ} (w : Ledger s places
   pub listing-of : Listing list (masksIn list count) list
   listing-of = listing-over list refl refl
 
-  pub listing-grown : {P : ℕ → Type 0} {old : List ℕ} {before : ℕ} → Grows P old before list count → Listing old (masksIn list count) list
-  listing-grown {old = old} g = listing-over old (g .behind) (g .long)
+pub listing-grown : {P : ℕ → Type 0} {s : Tasks} {old list : List ℕ} {before count : ℕ} → Extended P s old before list count → Listing old (masksIn list count) list
+listing-grown {old = old} x = listing-over (x .ledger) old (x .grows .behind) (x .grows .long)

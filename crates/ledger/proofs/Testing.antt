@@ -5,39 +5,39 @@ use mathlib.Core.Logic.{inl}
 use mathlib.Core.List.{List}
 use Prim.Native.Nat.{ℕ}
 use borrow.Author.Tests.{eq-eqb}
-use lib.Dec.{eqb}
 use Rattle.mask.specs.Mask.{has}
 use Rattle.schedule.specs.Periodic.{Tasks, LateSet}
 use Rattle.schedule.specs.Response.{lateTest}
 use Rattle.known.specs.Known.{withVerdict}
-use Rattle.ledger.specs.Ledger.{coveredBy, hinted, testBy, testOf, knownAfter, Ledger, Clear, Verdict, Noted}
-use Rattle.ledger.proofs.Growth.{grows-refl}
+use Rattle.ledger.specs.declared.Mode.{Mode}
+use Rattle.ledger.specs.Ledger.{Ledger, full, Clear, Verdict, coveredBy, hinted, testBy, testOf, knownAfter, Noted}
+use Rattle.ledger.proofs.Growth.{extended-refl}
 
-module _ {s : Tasks} {places count : ℕ} {list : List ℕ} (w : Ledger s places list count) (listing : Bool) (x : ℕ) where
+module _ {s : Tasks} {count : ℕ} {list : List ℕ} (w : Ledger s list count) (mode : Mode) (x : ℕ) where
   module _ {late : Bool} (is-late : late ≡ lateTest s (has x)) where
-    pub test-is : {listed covered full : Bool} → listed ≡ listing → covered ≡ coveredBy list count x → full ≡ eqb count places
-        → testBy late listed covered full count ≡ testOf s listing places x list count
+    pub test-is : {listed covered none-free : Bool} → listed ≡ mode .listing → covered ≡ coveredBy list count x → none-free ≡ full list count
+        → testBy late listed covered none-free count ≡ testOf s mode x list count
     unfolding testOf
     test-is l c f = rw (is-late, l, c, f) refl
 
-    pub known-asked : (known : List ℕ) {after : List ℕ} → (late && listing) ≡ false → after ≡ withVerdict known x late → after ≡ knownAfter s listing x list count known
+    pub known-asked : (known : List ℕ) {after : List ℕ} → (late && mode .listing) ≡ false → after ≡ withVerdict known x late → after ≡ knownAfter s mode x list count known
     unfolding knownAfter
     known-asked known e a = rw (← is-late, e) a
 
-    pub known-looked : (known : List ℕ) {asked after : List ℕ} → (late && listing) ≡ true → asked ≡ withVerdict known x late → after ≡ hinted asked list count x
-        → after ≡ knownAfter s listing x list count known
+    pub known-looked : (known : List ℕ) {asked after : List ℕ} → (late && mode .listing) ≡ true → asked ≡ withVerdict known x late → after ≡ hinted asked list count x
+        → after ≡ knownAfter s mode x list count known
     unfolding knownAfter
     known-looked known e a b = rw (← is-late, e, ← a) b
 
   -- the list stays as it is
-  pub unchanged : {b : Bool} → record { bad = b; count = count } ≡ testOf s listing places x list count → Verdict b s listing places list count (has x)
-      → Noted s listing places x list count list (record { bad = b; count = count })
-  unchanged e v = record { value = e; list = rw (eq-eqb count count refl) refl; ledger = w; grows = grows-refl; verdict = v }
+  pub unchanged : {b : Bool} → record { bad = b; count = count } ≡ testOf s mode x list count → Verdict b s (mode .listing) list count (has x)
+      → Noted s mode x list count list (record { bad = b; count = count })
+  unchanged e v = record { value = e; bytes = rw (eq-eqb count count refl) refl; list = extended-refl w; verdict = v }
 
   -- a set that is not late may stand, whether conflicts are listed or not
-  pub in-time : (LateSet s (has x) → ⊥) → Clear s listing places list count (has x)
-  in-time f = go listing
+  pub in-time : (LateSet s (has x) → ⊥) → Clear s (mode .listing) list count (has x)
+  in-time f = go (mode .listing)
     where
-      go : (b : Bool) → Clear s b places list count (has x)
+      go : (b : Bool) → Clear s b list count (has x)
       go false = f
       go true = inl f

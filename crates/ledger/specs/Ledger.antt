@@ -14,6 +14,7 @@ use Rattle.conflict.specs.Conflict.{Minimal}
 use Rattle.wire.specs.Wire.{laid}
 use Rattle.answer.specs.Answer.{conflictBytes, records, maskAt}
 use Rattle.known.specs.Known.{placeOf, withVerdict}
+use Rattle.ledger.specs.declared.Mode.{Mode}
 use Rattle.ledger.specs.declared.Tested.{Tested}
 
 -- the masks of the first `count` records
@@ -27,13 +28,16 @@ pub record Covered (list : List ℕ) (count : ℕ) (x : ℕ → Bool) : Type 0 w
   pub listed : number < count
   pub inside : (k : ℕ) → T (has (maskAt list number) k) → T (x k)
 
--- what holds of the list at all times: no more conflicts than places, room for the end, the records' bytes; each conflict minimal, all different
-pub record Ledger (s : Tasks) (places : ℕ) (list : List ℕ) (count : ℕ) : Type 0 where
-  pub room : count ≤ places
-  pub long : 6 * places + 3 ≤ length list
+-- what holds of the list at all times: room for its records and the end, the records' bytes; each conflict minimal, all different
+pub record Ledger (s : Tasks) (list : List ℕ) (count : ℕ) : Type 0 where
+  pub room : 6 * count + 3 ≤ length list
   pub written : list ≡ records (masksIn list count) ++ drop (6 * count) list
   pub minimal : (j : ℕ) → j < count → Minimal s (maskAt list j)
   pub different : (i j : ℕ) → i < count → j < count → maskAt list i ≡ maskAt list j → i ≡ j
+
+-- the list is full: one more record and the end do not fit
+abbrev pub full : List ℕ → ℕ → Bool
+full list count = ltb (length list) (6 * count + 9)
 
 -- from old to new the listed conflicts stay, P is true of each one more, and so do the bytes behind them
 pub record Grows (P : ℕ → Type 0) (old : List ℕ) (before : ℕ) (new : List ℕ) (count : ℕ) : Type 0 where
@@ -43,20 +47,32 @@ pub record Grows (P : ℕ → Type 0) (old : List ℕ) (before : ℕ) (new : Lis
   pub behind : drop (6 * count) new ≡ drop (6 * count) old
   pub long : length new ≡ length old
 
+-- the list holds, and has grown from old to new
+pub record Extended (P : ℕ → Type 0) (s : Tasks) (old : List ℕ) (before : ℕ) (new : List ℕ) (count : ℕ) : Type 0 where
+  pub ledger : Ledger s new count
+  pub grows : Grows P old before new count
+
+-- the search that lists nothing, with a limit or without one; and the one that lists conflicts, which has none
+abbrev pub quiet : Bool → Mode
+quiet limited = record { listing = false; limited = limited }
+
+abbrev pub lists : Mode
+lists = record { listing = true; limited = false }
+
 -- why a set may not stand on a processor: it is late; where conflicts are listed, one of them says so
 abbrev pub Bad : Tasks → Bool → List ℕ → ℕ → (ℕ → Bool) → Type 0
 Bad s false list count x = LateSet s x
 Bad s true list count x = Covered list count x
 
 -- why it may: it is not late; or, where conflicts are listed, the list is full and none of it says otherwise
-abbrev pub Clear : Tasks → Bool → ℕ → List ℕ → ℕ → (ℕ → Bool) → Type 0
-Clear s false places list count x = LateSet s x → ⊥
-Clear s true places list count x = (LateSet s x → ⊥) ⊎ ((count ≡ places) × (Covered list count x → ⊥))
+abbrev pub Clear : Tasks → Bool → List ℕ → ℕ → (ℕ → Bool) → Type 0
+Clear s false list count x = LateSet s x → ⊥
+Clear s true list count x = (LateSet s x → ⊥) ⊎ (T (full list count) × (Covered list count x → ⊥))
 
 -- the verdict on a set, with the list as it is afterwards
-abbrev pub Verdict : Bool → Tasks → Bool → ℕ → List ℕ → ℕ → (ℕ → Bool) → Type 0
-Verdict true s listing places list count x = Bad s listing list count x
-Verdict false s listing places list count x = Clear s listing places list count x
+abbrev pub Verdict : Bool → Tasks → Bool → List ℕ → ℕ → (ℕ → Bool) → Type 0
+Verdict true s listing list count x = Bad s listing list count x
+Verdict false s listing list count x = Clear s listing list count x
 
 -- one of the listed conflicts lies within the set x, as a test
 abbrev pub coveredBy : List ℕ → ℕ → ℕ → Bool
@@ -77,19 +93,18 @@ testBy true true true full count = record { bad = true; count = count }
 testBy true true false true count = record { bad = false; count = count }
 testBy true true false false count = record { bad = true; count = count + 1 }
 
-unfoldable pub testOf : Tasks → Bool → ℕ → ℕ → List ℕ → ℕ → Tested
-testOf s listing places x list count = testBy (lateTest s (has x)) listing (coveredBy list count x) (eqb count places) count
+unfoldable pub testOf : Tasks → Mode → ℕ → List ℕ → ℕ → Tested
+testOf s mode x list count = testBy (lateTest s (has x)) (mode .listing) (coveredBy list count x) (full list count) count
 
 -- the table of known sets after the test: the set is asked for; where it is late and conflicts are listed, one within it is looked for
-unfoldable pub knownAfter : Tasks → Bool → ℕ → List ℕ → ℕ → List ℕ → List ℕ
-knownAfter s listing x list count known =
+unfoldable pub knownAfter : Tasks → Mode → ℕ → List ℕ → ℕ → List ℕ → List ℕ
+knownAfter s mode x list count known =
     let late = lateTest s (has x) in
-    cond (late && listing) (hinted (withVerdict known x late) list count x) (withVerdict known x late)
+    cond (late && mode .listing) (hinted (withVerdict known x late) list count x) (withVerdict known x late)
 
 -- what the test of a set leaves: a list that may have grown by a conflict within the set, and the verdict
-pub record Noted (s : Tasks) (listing : Bool) (places set : ℕ) (old : List ℕ) (before : ℕ) (new : List ℕ) (r : Tested) : Type 0 where
-  pub value : r ≡ testOf s listing places set old before
-  pub list : new ≡ cond (eqb (r .count) before) old (laid (6 * before) (conflictBytes (maskAt new before)) old)
-  pub ledger : Ledger s places new (r .count)
-  pub grows : Grows (λ c. Subset c set) old before new (r .count)
-  pub verdict : Verdict (r .bad) s listing places new (r .count) (has set)
+pub record Noted (s : Tasks) (mode : Mode) (set : ℕ) (old : List ℕ) (before : ℕ) (new : List ℕ) (r : Tested) : Type 0 where
+  pub value : r ≡ testOf s mode set old before
+  pub bytes : new ≡ cond (eqb (r .count) before) old (laid (6 * before) (conflictBytes (maskAt new before)) old)
+  pub list : Extended (λ c. Subset c set) s old before new (r .count)
+  pub verdict : Verdict (r .bad) s (mode .listing) new (r .count) (has set)

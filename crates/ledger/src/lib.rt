@@ -9,10 +9,9 @@ ghost use Rattle.ledger.specs.Ledger.{Ledger, coveredBy, hinted, knownAf
 use known::Known;
 use schedule::Timing;
 
-// How the search runs: whether it lists conflicts, in how many places, and whether it may give up.
+// How the search runs: whether it lists conflicts, and whether it may give up.
 pub struct Mode {
     pub listing: bool,
-    pub places: usize,
     pub limited: bool,
 }
 
@@ -39,7 +38,7 @@ pub fn covered(list: &[u8], count: usize, set: u32, known: &mut Known) -> bool
     number < count
 }
 
-// Tests a set. Where conflicts are listed, a late set must hold a listed one: one of its own is appended while there are places.
+// Tests a set. Where conflicts are listed, a late set must hold a listed one: one of its own is appended while there is room.
 pub fn test(
     timing: &Timing,
     n: usize,
@@ -49,9 +48,10 @@ pub fn test(
     count: usize,
     known: &mut Known,
 ) -> Tested
-    requires { ⌜ InLimits n (now timing) set × Ledger (tasksOf n (now timing)) (mode .places) (now list) count × Knows (tasksOf n (now timing)) (now known) ⌝ }
-    ensures { λ r. ⌜ Noted (tasksOf n (now (timing .entry))) (mode .listing) (mode .places) set (now (list .entry)) count (now (list .exit)) r × Knows (tasksOf n (now (timing .entry))) (now (known .exit))
-        × (now (known .exit) ≡ knownAfter (tasksOf n (now (timing .entry))) (mode .listing) set (now (list .entry)) count (now (known .entry))) ⌝ }
+    requires { ⌜ InLimits n (now timing) set × Ledger (tasksOf n (now timing)) (now list) count × Knows (tasksOf n (now timing)) (now known) ⌝ }
+    ensures { λ r. ⌜ Noted (tasksOf n (now (timing .entry))) mode set (now (list .entry)) count (now (list .exit)) r
+        × Knows (tasksOf n (now (timing .entry))) (now (known .exit))
+        × (now (known .exit) ≡ knownAfter (tasksOf n (now (timing .entry))) mode set (now (list .entry)) count (now (known .entry))) ⌝ }
 {
     if !known::is_late(timing, n, set, known) {
         return Tested { bad: false, count };
@@ -62,7 +62,7 @@ pub fn test(
     if covered(list, count, set, known) {
         return Tested { bad: true, count }; // on whatever processor the conflict was seen
     }
-    if count == mode.places {
+    if list.len() < 6 * count + 9 {
         return Tested { bad: false, count };
     }
     let conflict = conflict::extract(timing, n, set);

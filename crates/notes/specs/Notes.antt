@@ -3,6 +3,16 @@ use mathlib.Core.Bool.{cond}
 use Prim.Native.Nat.{ℕ, _+_, _*_, _%_}
 use lib.Dec.{leb}
 
+-- where the state of the random numbers stands, the credit of the bound, and how often it was skipped
+abbrev pub random : ℕ
+random = 24
+
+abbrev pub credit : ℕ
+credit = 25
+
+abbrev pub skips : ℕ
+skips = 26
+
 -- a failure weight after one failure more; it stays where it has grown large
 abbrev pub heavier : ℕ → ℕ
 heavier w = cond (leb 4000000000 w) w (w + 16)

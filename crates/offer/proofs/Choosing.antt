@@ -22,9 +22,10 @@ use Rattle.rules.specs.Sets.{standing}
 use Rattle.rules.proofs.Monotone.{keeps-part}
 use Rattle.timing.specs.Timing.{tasksIn}
 use Rattle.timing.proofs.Limits.{valid-tasks, constrained-tasks}
+use Rattle.ledger.specs.declared.Mode.{Mode}
 use Rattle.ledger.specs.declared.Tested.{Tested}
-use Rattle.ledger.specs.Ledger.{Ledger, Grows, Bad, Verdict, Noted}
-use Rattle.ledger.proofs.Growth.{grows-refl, grows-trans, grows-map}
+use Rattle.ledger.specs.Ledger.{Ledger, Extended, Bad, Verdict, Noted}
+use Rattle.ledger.proofs.Growth.{extended-refl, extended-trans, extended-map}
 use Rattle.ledger.proofs.Verdicts.{bad-grows, bad-more}
 use Rattle.partial.specs.declared.State.{State}
 use Rattle.partial.specs.Partial.{Fits}
@@ -50,28 +51,26 @@ module _ {t : Table} {s : State} (h : Sound t) (f : Fits t s) (k p : ℕ) (waits
   keeps-there : {B : (ℕ → Bool) → Type 0} (q : List ℕ) → Fair t s B q → T (placed q k p) → Keeps t (andTask (standing (s .on)) k p)
   keeps-there q w there = keeps-part t (andTask (standing (s .on)) k p) (placed q) (and-within (standing (s .on)) k p (placed q) (w .inside) there) (w .keeps)
 
-  module _ {listing : Bool} {places : ℕ} {old : List ℕ} {before : ℕ} where
+  module _ {mode : Mode} {old : List ℕ} {before : ℕ} where
     -- the rules do not allow it
-    pub joins-broken : (allowed : Bool) → Says allowed (Keeps t (andTask (standing (s .on)) k p)) → not allowed ≡ true → Ledger (tasksIn t) places old before
-        → JoinsAs t listing places s k p old before old (record { able = false; count = before })
+    pub joins-broken : (allowed : Bool) → Says allowed (Keeps t (andTask (standing (s .on)) k p)) → not allowed ≡ true → Ledger (tasksIn t) old before
+        → JoinsAs t mode s k p old before old (record { able = false; count = before })
     joins-broken allowed says e w = record {
-      ledger = w;
-      grows = grows-refl;
+      list = extended-refl w;
       able = λ i. absurd (false≢true i);
       unable = λ i q fair there. subst (λ (b : Bool). Says b (Keeps t (andTask (standing (s .on)) k p))) (not-true allowed e) says (keeps-there q fair there);
     }
 
     -- they do, and its set was tested
     pub joins-tested : (allowed : Bool) → Says allowed (Keeps t (andTask (standing (s .on)) k p)) → not allowed ≡ false
-        → {new : List ℕ} (r : Tested) → Noted (tasksIn t) listing places (insertOf (getD (s .on) p 0) k) old before new r
-        → JoinsAs t listing places s k p old before new (record { able = not (r .bad); count = r .count })
+        → {new : List ℕ} (r : Tested) → Noted (tasksIn t) mode (insertOf (getD (s .on) p 0) k) old before new r
+        → JoinsAs t mode s k p old before new (record { able = not (r .bad); count = r .count })
     joins-tested allowed says e {new} r noted = record {
-      ledger = noted .ledger;
-      grows = grows-map (λ c g. met-among h f low (λ j. eqb j k) (λ j u. rw (eqb→eq j k u) waits) (λ j u. rw (eqb→eq j k u) home) (λ j u. either j (g j u))) (noted .grows);
+      list = extended-map (λ c g. met-among h f low (λ j. eqb j k) (λ j u. rw (eqb→eq j k u) waits) (λ j u. rw (eqb→eq j k u) home) (λ j u. either j (g j u))) (noted .list);
       able = λ i. home;
       unable = λ i q fair there.
-          fair .clear p low (bad-more (valid-tasks h) (constrained-tasks h) listing new (r .count) (has (insertOf (getD (s .on) p 0) k)) (λ j. placed q j p) (λ j u. there-too q fair there j (either j u))
-          (subst (λ (b : Bool). Verdict b (tasksIn t) listing places new (r .count) (has (insertOf (getD (s .on) p 0) k))) (not-false (r .bad) i) (noted .verdict)));
+          fair .clear p low (bad-more (valid-tasks h) (constrained-tasks h) (mode .listing) new (r .count) (has (insertOf (getD (s .on) p 0) k)) (λ j. placed q j p) (λ j u. there-too q fair there j (either j u))
+          (subst (λ (b : Bool). Verdict b (tasksIn t) (mode .listing) new (r .count) (has (insertOf (getD (s .on) p 0) k))) (not-false (r .bad) i) (noted .verdict)));
     }
       where
         keeps : Keeps t (andTask (standing (s .on)) k p)
@@ -85,43 +84,40 @@ module _ {t : Table} {s : State} (h : Sound t) (f : Fits t s) (k p : ℕ) (waits
             ⊎-elim (or-right (has (getD (s .on) p 0) j) (eqb j k)) (or-left (has (getD (s .on) p 0) j) (eqb j k))
             (or-either (eqb j k) (has (getD (s .on) p 0) j) (rw (has-insert (getD (s .on) p 0) k j) at u))
 
-        there-too : (q : List ℕ) → Fair t s (Bad (tasksIn t) listing new (r .count)) q → T (placed q k p) → (j : ℕ) → T (has (getD (s .on) p 0) j || eqb j k) → T (placed q j p)
+        there-too : (q : List ℕ) → Fair t s (Bad (tasksIn t) (mode .listing) new (r .count)) q → T (placed q k p) → (j : ℕ) → T (has (getD (s .on) p 0) j || eqb j k) → T (placed q j p)
         there-too q fair there j u = ⊎-elim (fair .inside j p) (λ v. rw (eqb→eq j k v) there) (or-either (has (getD (s .on) p 0) j) (eqb j k) u)
 
 -- ---- the loop over the open tasks
 
 -- of those that a fair placement has on p, each is in the set or still to be looked at
-pub record Choosing (t : Table) (listing : Bool) (places : ℕ) (s : State) (p : ℕ) (old : List ℕ) (before set rest : ℕ) (list : List ℕ) (listed : ℕ) : Type 0 where
-  pub ledger : Ledger (tasksIn t) places list listed
-  pub grows : Grows (Met t (Within (standing (s .on)))) old before list listed
+pub record Choosing (t : Table) (mode : Mode) (s : State) (p : ℕ) (old : List ℕ) (before set rest : ℕ) (new : List ℕ) (listed : ℕ) : Type 0 where
+  pub list : Extended (Met t (Within (standing (s .on)))) (tasksIn t) old before new listed
   pub eligible : Eligible t s p set
-  pub complete : (q : List ℕ) → Fair t s (Bad (tasksIn t) listing list listed) q → (k : ℕ) → T (has (s .left) k) → T (placed q k p) → T (has rest k) ⊎ T (has set k)
+  pub complete : (q : List ℕ) → Fair t s (Bad (tasksIn t) (mode .listing) new listed) q → (k : ℕ) → T (has (s .left) k) → T (placed q k p) → T (has rest k) ⊎ T (has set k)
 
-pub choosing-start : {t : Table} {listing : Bool} {places : ℕ} {s : State} {p : ℕ} {list : List ℕ} {count : ℕ} → Ledger (tasksIn t) places list count → Choosing t listing places s p list count 0 (s .left) list count
+pub choosing-start : {t : Table} {mode : Mode} {s : State} {p : ℕ} {list : List ℕ} {count : ℕ} → Ledger (tasksIn t) list count → Choosing t mode s p list count 0 (s .left) list count
 choosing-start w = record {
-  ledger = w;
-  grows = grows-refl;
+  list = extended-refl w;
   eligible = record { waits = λ k u. absurd (rw (has-zero k) at u); resides = λ k u. absurd (rw (has-zero k) at u) };
   complete = λ q fair k u there. inl u;
 }
 
-module _ {t : Table} {listing : Bool} {places : ℕ} {s : State} {p : ℕ} {old : List ℕ} {before set rest : ℕ} {list : List ℕ} {listed : ℕ}
-    (w : Choosing t listing places s p old before set rest list listed) where
-  module _ {k : ℕ} (waits : T (has (s .left) k)) {new : List ℕ} (r : Joining) (a : JoinsAs t listing places s k p list listed new r) where
+module _ {t : Table} {mode : Mode} {s : State} {p : ℕ} {old : List ℕ} {before set rest : ℕ} {list : List ℕ} {listed : ℕ}
+    (w : Choosing t mode s p old before set rest list listed) where
+  module _ {k : ℕ} (waits : T (has (s .left) k)) {new : List ℕ} (r : Joining) (a : JoinsAs t mode s k p list listed new r) where
     -- what is known of the tasks other than k
-    others : (next : ℕ) → ((j : ℕ) → T (has set j) → T (has next j)) → ((q : List ℕ) → Fair t s (Bad (tasksIn t) listing new (r .count)) q → T (placed q k p) → T (has next k))
-        → (q : List ℕ) → Fair t s (Bad (tasksIn t) listing new (r .count)) q → (j : ℕ) → T (has (s .left) j) → T (placed q j p) → T (has (removeOf rest k) j) ⊎ T (has next j)
-    others next more here q fair j u there = go (ℕ-discrete j k) (w .complete q (fair-map (λ x. bad-grows (tasksIn t) listing x (a .grows)) fair) j u there)
+    others : (next : ℕ) → ((j : ℕ) → T (has set j) → T (has next j)) → ((q : List ℕ) → Fair t s (Bad (tasksIn t) (mode .listing) new (r .count)) q → T (placed q k p) → T (has next k))
+        → (q : List ℕ) → Fair t s (Bad (tasksIn t) (mode .listing) new (r .count)) q → (j : ℕ) → T (has (s .left) j) → T (placed q j p) → T (has (removeOf rest k) j) ⊎ T (has next j)
+    others next more here q fair j u there = go (ℕ-discrete j k) (w .complete q (fair-map (λ x. bad-grows (tasksIn t) (mode .listing) x (a .list .grows)) fair) j u there)
       where
         go : Dec (j ≡ k) → T (has rest j) ⊎ T (has set j) → T (has (removeOf rest k) j) ⊎ T (has next j)
         go (yes e) o = inr (rw e (here q fair (rw e at there)))
         go (no e) (inl v) = inl (rw (has-remove rest k j, ne-eqb j k e) v)
         go (no e) (inr v) = inr (more j v)
 
-    pub choosing-in : r .able ≡ true → Choosing t listing places s p old before (insertOf set k) (removeOf rest k) new (r .count)
+    pub choosing-in : r .able ≡ true → Choosing t mode s p old before (insertOf set k) (removeOf rest k) new (r .count)
     choosing-in e = record {
-      ledger = a .ledger;
-      grows = grows-trans (w .grows) (a .grows);
+      list = extended-trans (w .list) (a .list);
       eligible = record {
         waits = λ j u. ⊎-elim (λ v. rw (eqb→eq j k v) waits) (w .eligible .waits j) (one-of j u);
         resides = λ j u. ⊎-elim (λ v. rw (eqb→eq j k v) (a .able e)) (w .eligible .resides j) (one-of j u);
@@ -132,41 +128,38 @@ module _ {t : Table} {listing : Bool} {places : ℕ} {s : State} {p : ℕ} {old 
         one-of : (j : ℕ) → T (has (insertOf set k) j) → T (eqb j k) ⊎ T (has set j)
         one-of j u = or-either (eqb j k) (has set j) (rw (has-insert set k j) at u)
 
-    pub choosing-out : r .able ≡ false → Choosing t listing places s p old before set (removeOf rest k) new (r .count)
+    pub choosing-out : r .able ≡ false → Choosing t mode s p old before set (removeOf rest k) new (r .count)
     choosing-out e = record {
-      ledger = a .ledger;
-      grows = grows-trans (w .grows) (a .grows);
+      list = extended-trans (w .list) (a .list);
       eligible = w .eligible;
       complete = others set (λ j u. u) (λ q fair there. absurd (a .unable e q fair there));
     }
 
-  pub choosing-end : rest ≡ 0 → ChosenAs t listing places s p old before list (record { set = set; count = listed })
+  pub choosing-end : rest ≡ 0 → ChosenAs t mode s p old before list (record { set = set; count = listed })
   choosing-end e = record {
-    ledger = w .ledger;
-    grows = w .grows;
+    list = w .list;
     choice = record { eligible = w .eligible; complete = λ q fair k u there. ⊎-elim (λ v. absurd (rw (e, has-zero k) at v)) (λ v. v) (w .complete q fair k u there) };
   }
 
 -- ---- the loop over the processors
 
-pub record Offering (t : Table) (listing : Bool) (places : ℕ) (s : State) (old : List ℕ) (before p : ℕ) (sets list : List ℕ) (listed : ℕ) : Type 0 where
-  pub ledger : Ledger (tasksIn t) places list listed
-  pub grows : Grows (Met t (Within (standing (s .on)))) old before list listed
-  pub choices : (r : ℕ) → r < p → Choice t s (Bad (tasksIn t) listing list listed) r (getD sets r 0)
+pub record Offering (t : Table) (mode : Mode) (s : State) (old : List ℕ) (before p : ℕ) (sets new : List ℕ) (listed : ℕ) : Type 0 where
+  pub list : Extended (Met t (Within (standing (s .on)))) (tasksIn t) old before new listed
+  pub choices : (r : ℕ) → r < p → Choice t s (Bad (tasksIn t) (mode .listing) new listed) r (getD sets r 0)
 
-pub offering-start : {t : Table} {listing : Bool} {places : ℕ} {s : State} {sets list : List ℕ} {count : ℕ} → Ledger (tasksIn t) places list count → Offering t listing places s list count 0 sets list count
-offering-start w = record { ledger = w; grows = grows-refl; choices = λ r l. absurd (omega arith) }
+pub offering-start : {t : Table} {mode : Mode} {s : State} {sets list : List ℕ} {count : ℕ} → Ledger (tasksIn t) list count → Offering t mode s list count 0 sets list count
+offering-start w = record { list = extended-refl w; choices = λ r l. absurd (omega arith) }
 
-module _ {t : Table} {listing : Bool} {places : ℕ} {s : State} {old : List ℕ} {before p : ℕ} {sets list : List ℕ} {listed : ℕ} (w : Offering t listing places s old before p sets list listed) where
-  pub offering-next : p < length sets → {new : List ℕ} (r : Chosen) → ChosenAs t listing places s p list listed new r → Offering t listing places s old before (p + 1) (set sets p (r .set)) new (r .count)
-  offering-next low {new} r a = record { ledger = a .ledger; grows = grows-trans (w .grows) (a .grows); choices = λ i l. go i l (ℕ-discrete i p) }
+module _ {t : Table} {mode : Mode} {s : State} {old : List ℕ} {before p : ℕ} {sets list : List ℕ} {listed : ℕ} (w : Offering t mode s old before p sets list listed) where
+  pub offering-next : p < length sets → {new : List ℕ} (r : Chosen) → ChosenAs t mode s p list listed new r → Offering t mode s old before (p + 1) (set sets p (r .set)) new (r .count)
+  offering-next low {new} r a = record { list = extended-trans (w .list) (a .list); choices = λ i l. go i l (ℕ-discrete i p) }
     where
-      go : (i : ℕ) → i < p + 1 → Dec (i ≡ p) → Choice t s (Bad (tasksIn t) listing new (r .count)) i (getD (set sets p (r .set)) i 0)
+      go : (i : ℕ) → i < p + 1 → Dec (i ≡ p) → Choice t s (Bad (tasksIn t) (mode .listing) new (r .count)) i (getD (set sets p (r .set)) i 0)
       go i l (yes e) = rw (e, getD-set-same sets p (r .set) 0 low) (a .choice)
-      go i l (no e) = rw (getD-set-other sets p i (r .set) 0 e) (choice-map (λ x. bad-grows (tasksIn t) listing x (a .grows)) (w .choices i (omega arith)))
+      go i l (no e) = rw (getD-set-other sets p i (r .set) 0 e) (choice-map (λ x. bad-grows (tasksIn t) (mode .listing) x (a .list .grows)) (w .choices i (omega arith)))
 
-  pub offering-end : t .processors .count ≤ p → OfferedAs t listing places s old before list (record { sets = sets; count = listed })
-  offering-end l = record { ledger = w .ledger; grows = w .grows; choices = λ r i. w .choices r (omega arith) }
+  pub offering-end : t .processors .count ≤ p → OfferedAs t mode s old before list (record { sets = sets; count = listed })
+  offering-end l = record { list = w .list; choices = λ r i. w .choices r (omega arith) }
 
 -- a wider range
 pub below-more : (n m x : ℕ) → n ≤ m → T (below n x) → T (below m x)

@@ -13,7 +13,8 @@ use Rattle.rules.specs.Sets.{standing}
 use Rattle.timing.specs.Timing.{tasksIn}
 use Rattle.judge.specs.Judge.{PlacementOf}
 use Rattle.partial.specs.declared.State.{State}
-use Rattle.ledger.specs.Ledger.{Ledger, Grows, Bad}
+use Rattle.ledger.specs.declared.Mode.{Mode}
+use Rattle.ledger.specs.Ledger.{Extended, Bad}
 use Rattle.region.specs.Region.{Within, Met}
 use Rattle.offer.specs.declared.Joining.{Joining}
 use Rattle.offer.specs.declared.Chosen.{Chosen}
@@ -27,11 +28,10 @@ pub record Fair (t : Table) (s : State) (B : (ℕ → Bool) → Type 0) (q : Lis
   pub clear : (p : ℕ) → p < t .processors .count → B (λ k. placed q k p) → ⊥
 
 -- what the test of the open task k on processor p leaves: it may reside there, or no fair placement has it there
-pub record JoinsAs (t : Table) (listing : Bool) (places : ℕ) (s : State) (k p : ℕ) (old : List ℕ) (before : ℕ) (new : List ℕ) (r : Joining) : Type 0 where
-  pub ledger : Ledger (tasksIn t) places new (r .count)
-  pub grows : Grows (Met t (Within (standing (s .on)))) old before new (r .count)
+pub record JoinsAs (t : Table) (mode : Mode) (s : State) (k p : ℕ) (old : List ℕ) (before : ℕ) (new : List ℕ) (r : Joining) : Type 0 where
+  pub list : Extended (Met t (Within (standing (s .on)))) (tasksIn t) old before new (r .count)
   pub able : r .able ≡ true → T (has (getD (t .tasks .residence) k 0) p)
-  pub unable : r .able ≡ false → (q : List ℕ) → Fair t s (Bad (tasksIn t) listing new (r .count)) q → T (placed q k p) → ⊥
+  pub unable : r .able ≡ false → (q : List ℕ) → Fair t s (Bad (tasksIn t) (mode .listing) new (r .count)) q → T (placed q k p) → ⊥
 
 -- open tasks that may reside on p
 pub record Eligible (t : Table) (s : State) (p set : ℕ) : Type 0 where
@@ -44,17 +44,15 @@ pub record Choice (t : Table) (s : State) (B : (ℕ → Bool) → Type 0) (p set
   pub complete : (q : List ℕ) → Fair t s B q → (k : ℕ) → T (has (s .left) k) → T (placed q k p) → T (has set k)
 
 -- what the tests of all open tasks on p leave: the list, and the candidates of p
-pub record ChosenAs (t : Table) (listing : Bool) (places : ℕ) (s : State) (p : ℕ) (old : List ℕ) (before : ℕ) (new : List ℕ) (r : Chosen) : Type 0 where
-  pub ledger : Ledger (tasksIn t) places new (r .count)
-  pub grows : Grows (Met t (Within (standing (s .on)))) old before new (r .count)
-  pub choice : Choice t s (Bad (tasksIn t) listing new (r .count)) p (r .set)
+pub record ChosenAs (t : Table) (mode : Mode) (s : State) (p : ℕ) (old : List ℕ) (before : ℕ) (new : List ℕ) (r : Chosen) : Type 0 where
+  pub list : Extended (Met t (Within (standing (s .on)))) (tasksIn t) old before new (r .count)
+  pub choice : Choice t s (Bad (tasksIn t) (mode .listing) new (r .count)) p (r .set)
 
 -- the candidates of each processor
 abbrev pub Choices : Table → State → ((ℕ → Bool) → Type 0) → List ℕ → Type 0
 Choices t s B sets = (p : ℕ) → p < t .processors .count → Choice t s B p (getD sets p 0)
 
 -- what the tests for all processors leave: the list, and the candidates of each
-pub record OfferedAs (t : Table) (listing : Bool) (places : ℕ) (s : State) (old : List ℕ) (before : ℕ) (new : List ℕ) (r : Offered) : Type 0 where
-  pub ledger : Ledger (tasksIn t) places new (r .count)
-  pub grows : Grows (Met t (Within (standing (s .on)))) old before new (r .count)
-  pub choices : Choices t s (Bad (tasksIn t) listing new (r .count)) (r .sets)
+pub record OfferedAs (t : Table) (mode : Mode) (s : State) (old : List ℕ) (before : ℕ) (new : List ℕ) (r : Offered) : Type 0 where
+  pub list : Extended (Met t (Within (standing (s .on)))) (tasksIn t) old before new (r .count)
+  pub choices : Choices t s (Bad (tasksIn t) (mode .listing) new (r .count)) (r .sets)

@@ -6,10 +6,11 @@ ghost use Rattle.mask.specs.Mask.{has};
 ghost use Rattle.table.specs.declared.Table.{Table};
 ghost use Rattle.timing.specs.Timing.{tasksIn};
 ghost use Rattle.partial.specs.declared.State.{State};
-ghost use Rattle.partial.specs.Partial.{Fits, siteOf};
+ghost use Rattle.partial.specs.Partial.{siteOf};
 ghost use Rattle.known.specs.Known.{Knows};
-ghost use Rattle.ledger.specs.Ledger.{Ledger};
 ghost use Rattle.region.specs.Lends.{Lends};
+ghost use Rattle.region.specs.Begins.{Opens};
+ghost use Rattle.region.specs.Given.{Given, Gives};
 ghost use Rattle.offer.specs.Offer.{JoinsAs, ChosenAs, OfferedAs};
 use columns::Columns;
 use columns::Messages;
@@ -52,9 +53,11 @@ fn join<'a>(
     count: usize,
     known: &mut Known,
 ) -> Joining
-    requires { ⌜ ((t : Table) × (s : State) × Lends t sizes (now timing) (now columns) (now messages) × Fits t s × (site ≡ siteOf s p) × Ledger (tasksIn t) (mode .places) (now list) count × Knows (tasksIn t) (now known)) × T (has (site .left) k) × (p < sizes .processors) ⌝ }
+    requires { ⌜ ((t : Table) × (s : State) × Lends t sizes (now timing) (now columns) (now messages) × Opens t s (now list) count × (site ≡ siteOf s p)
+        × Knows (tasksIn t) (now known)) × T (has (site .left) k) × (p < sizes .processors) ⌝ }
     ensures { λ r. ⌜ ((t : Table) (s : State) → Lends t sizes (now (timing .entry)) (now (columns .entry)) (now (messages .entry))
-        → Fits t s → site ≡ siteOf s p → Ledger (tasksIn t) (mode .places) (now (list .entry)) count → Knows (tasksIn t) (now (known .entry)) → JoinsAs t (mode .listing) (mode .places) s k p (now (list .entry)) count (now (list .exit)) r × Knows (tasksIn t) (now (known .exit))) ⌝ }
+        → Opens t s (now (list .entry)) count → site ≡ siteOf s p → Knows (tasksIn t) (now (known .entry))
+        → JoinsAs t mode s k p (now (list .entry)) count (now (list .exit)) r × Knows (tasksIn t) (now (known .exit))) ⌝ }
 {
     if !partial::allows(columns, messages, sizes, site, k, p) {
         return Joining { able: false, count };
@@ -80,9 +83,11 @@ fn candidates<'a>(
     count: usize,
     known: &mut Known,
 ) -> Chosen
-    requires { ⌜ ((t : Table) × Lends t sizes (now timing) (now columns) (now messages) × Fits t s × Ledger (tasksIn t) (mode .places) (now list) count × Knows (tasksIn t) (now known)) × (p < sizes .processors) ⌝ }
-    ensures { λ r. ⌜ ((t : Table) → Lends t sizes (now (timing .entry)) (now (columns .entry)) (now (messages .entry))
-        → Fits t s → Ledger (tasksIn t) (mode .places) (now (list .entry)) count → Knows (tasksIn t) (now (known .entry)) → ChosenAs t (mode .listing) (mode .places) s p (now (list .entry)) count (now (list .exit)) r × Knows (tasksIn t) (now (known .exit))) ⌝ }
+    requires { ⌜ Given sizes (now timing) (now columns) (now messages) (λ t. Opens t s (now list) count) (λ t. Knows (tasksIn t) (now known))
+        × (p < sizes .processors) ⌝ }
+    ensures { λ r. ⌜ Gives sizes (now (timing .entry)) (now (columns .entry)) (now (messages .entry))
+        (λ t. Opens t s (now (list .entry)) count) (λ t. Knows (tasksIn t) (now (known .entry)))
+        (λ t. ChosenAs t mode s p (now (list .entry)) count (now (list .exit)) r × Knows (tasksIn t) (now (known .exit))) ⌝ }
 {
     let site = Site {
         on: s.on[p],
@@ -130,9 +135,10 @@ pub fn offers<'a>(
     count: usize,
     known: &mut Known,
 ) -> Offered
-    requires { ⌜ ((t : Table) × Lends t sizes (now timing) (now columns) (now messages) × Fits t s × Ledger (tasksIn t) (mode .places) (now list) count × Knows (tasksIn t) (now known)) ⌝ }
-    ensures { λ r. ⌜ ((t : Table) → Lends t sizes (now (timing .entry)) (now (columns .entry)) (now (messages .entry))
-        → Fits t s → Ledger (tasksIn t) (mode .places) (now (list .entry)) count → Knows (tasksIn t) (now (known .entry)) → OfferedAs t (mode .listing) (mode .places) s (now (list .entry)) count (now (list .exit)) r × Knows (tasksIn t) (now (known .exit))) ⌝ }
+    requires { ⌜ Given sizes (now timing) (now columns) (now messages) (λ t. Opens t s (now list) count) (λ t. Knows (tasksIn t) (now known)) ⌝ }
+    ensures { λ r. ⌜ Gives sizes (now (timing .entry)) (now (columns .entry)) (now (messages .entry))
+        (λ t. Opens t s (now (list .entry)) count) (λ t. Knows (tasksIn t) (now (known .entry)))
+        (λ t. OfferedAs t mode s (now (list .entry)) count (now (list .exit)) r × Knows (tasksIn t) (now (known .exit))) ⌝ }
 {
     let mut sets = [0u32; 8];
     let mut listed = count;

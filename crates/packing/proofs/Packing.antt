@@ -15,9 +15,10 @@ use Rattle.mask.proofs.Laws.{has-insert, has-remove, remove-subset, remove-mono
 use Rattle.schedule.specs.Periodic.{Tasks}
 use Rattle.schedule.specs.Arrays.{tasksOf}
 use Rattle.schedule.proofs.TasksOfArrays.{valid-of, constrained-of, with-set}
+use Rattle.ledger.specs.declared.Mode.{Mode}
 use Rattle.ledger.specs.declared.Tested.{Tested}
-use Rattle.ledger.specs.Ledger.{Ledger, Grows, Bad, Verdict, Noted}
-use Rattle.ledger.proofs.Growth.{grows-refl, grows-trans, grows-map}
+use Rattle.ledger.specs.Ledger.{Extended, Bad, Verdict, Noted}
+use Rattle.ledger.proofs.Growth.{extended-refl, extended-trans, extended-map}
 use Rattle.ledger.proofs.Verdicts.{bad-grows, bad-more}
 use Rattle.packing.specs.declared.Pack.{Pack}
 use Rattle.packing.specs.declared.Packed.{Packed}
@@ -40,20 +41,19 @@ withTask memory loads weights pack k = record {
   best = pack .best;
 }
 
-module _ {n : ℕ} {timing : List (List ℕ)} {places k : ℕ} {pack : Pack} {old : List ℕ} {before : ℕ} (p : Packs n timing places pack old before) (l : k < n) where
+module _ {n : ℕ} {timing : List (List ℕ)} {k : ℕ} {pack : Pack} {old : List ℕ} {before : ℕ} (p : Packs n timing pack old before) (l : k < n) where
   -- there is no room for it
-  pub taken-refused : {listing : Bool} {memory exclusions loads weights : List ℕ} → hasRoom memory exclusions loads (pack .on) (pack .space) (pack .spare) k ≡ false
-      → TakenAs n (tasksOf n timing) listing places memory exclusions loads weights pack k old before old (record { most = pack .best; count = before })
+  pub taken-refused : {mode : Mode} {memory exclusions loads weights : List ℕ} → hasRoom memory exclusions loads (pack .on) (pack .space) (pack .spare) k ≡ false
+      → TakenAs n (tasksOf n timing) mode memory exclusions loads weights pack k old before old (record { most = pack .best; count = before })
   taken-refused e = record {
-    ledger = p .ledger;
-    grows = grows-refl;
+    list = extended-refl (p .ledger);
     no-less = omega arith;
     bounds = λ x w u f h. absurd (subst T e (takes-room w l u (p .limits .inside)));
   }
 
-  module _ {listing : Bool} {new : List ℕ} (r : Tested) (noted : Noted (tasksOf n timing) listing places (insertOf (pack .on) k) old before new r) where
-    grown : Grows (λ c. (j : ℕ) → T (has c j) → T (eqb j k || joined (pack .on) (pack .candidates) j)) old before new (r .count)
-    grown = grows-map (λ c f j u. go j (or-either (eqb j k) (has (pack .on) j) (rw (has-insert (pack .on) k j) at (f j u)))) (noted .grows)
+  module _ {mode : Mode} {new : List ℕ} (r : Tested) (noted : Noted (tasksOf n timing) mode (insertOf (pack .on) k) old before new r) where
+    grown : Extended (λ c. (j : ℕ) → T (has c j) → T (eqb j k || joined (pack .on) (pack .candidates) j)) (tasksOf n timing) old before new (r .count)
+    grown = extended-map (λ c f j u. go j (or-either (eqb j k) (has (pack .on) j) (rw (has-insert (pack .on) k j) at (f j u)))) (noted .list)
       where
         go : (j : ℕ) → T (eqb j k) ⊎ T (has (pack .on) j) → T (eqb j k || joined (pack .on) (pack .candidates) j)
         go j (inl e) = or-left (eqb j k) (joined (pack .on) (pack .candidates) j) e
@@ -62,25 +62,23 @@ module _ {n : ℕ} {timing : List (List ℕ)} {places k : ℕ} {pack : Pack} {ol
     module _ (memory exclusions loads weights : List ℕ) where
       -- it may not stand there
       pub taken-bad : r .bad ≡ true
-          → TakenAs n (tasksOf n timing) listing places memory exclusions loads weights pack k old before new (record { most = pack .best; count = r .count })
+          → TakenAs n (tasksOf n timing) mode memory exclusions loads weights pack k old before new (record { most = pack .best; count = r .count })
       taken-bad e = record {
-        ledger = noted .ledger;
-        grows = grown;
+        list = grown;
         no-less = omega arith;
-        bounds = λ x w u f h. absurd (w .clear (bad-more (valid-of (p .limits)) (constrained-of (p .limits)) listing new (r .count) (has (insertOf (pack .on) k)) (joined (pack .on) x)
-            (with-inside (pack .on) x k u) (subst (λ (b : Bool). Verdict b (tasksOf n timing) listing places new (r .count) (has (insertOf (pack .on) k))) e (noted .verdict))));
+        bounds = λ x w u f h. absurd (w .clear (bad-more (valid-of (p .limits)) (constrained-of (p .limits)) (mode .listing) new (r .count) (has (insertOf (pack .on) k)) (joined (pack .on) x)
+            (with-inside (pack .on) x k u) (subst (λ (b : Bool). Verdict b (tasksOf n timing) (mode .listing) new (r .count) (has (insertOf (pack .on) k))) e (noted .verdict))));
       }
 
       -- it may: what the calculation goes on with
-      pub taken-packs : Packs n timing places (withTask memory loads weights pack k) new (r .count)
-      taken-packs = record { limits = with-set (p .limits) _ (insert-below n (pack .on) k (p .limits .inside) l); tasks = p .tasks; ledger = noted .ledger }
+      pub taken-packs : Packs n timing (withTask memory loads weights pack k) new (r .count)
+      taken-packs = record { limits = with-set (p .limits) _ (insert-below n (pack .on) k (p .limits .inside) l); tasks = p .tasks; ledger = noted .list .ledger }
 
       -- and what it leaves
-      pub taken-on : {last : List ℕ} (q : Packed) → PackedAs n (tasksOf n timing) listing places memory exclusions loads weights (withTask memory loads weights pack k) new (r .count) last q
-          → TakenAs n (tasksOf n timing) listing places memory exclusions loads weights pack k old before last q
+      pub taken-on : {last : List ℕ} (q : Packed) → PackedAs n (tasksOf n timing) mode memory exclusions loads weights (withTask memory loads weights pack k) new (r .count) last q
+          → TakenAs n (tasksOf n timing) mode memory exclusions loads weights pack k old before last q
       taken-on q a = record {
-        ledger = a .ledger;
-        grows = grows-trans grown (grows-map (λ c f j u. within j (or-either (has (insertOf (pack .on) k) j) (has (pack .candidates) j) (f j u))) (a .grows));
+        list = extended-trans grown (extended-map (λ c f j u. within j (or-either (has (insertOf (pack .on) k) j) (has (pack .candidates) j) (f j u))) (a .list));
         no-less = a .no-less;
         bounds = λ x w u f h.
             let e = sum-remove n x (λ j. getD weights j 0) k l u in
@@ -118,43 +116,41 @@ abbrev pub Raised : Pack → Pack → Type 0
 Raised pack left = (best : ℕ) × (pack .best ≤ best) × (left ≡ raised pack best)
 
 module _ {pack left : Pack} (raise : Raised pack left) where
-  pub raised-packs : {n : ℕ} {timing : List (List ℕ)} {places : ℕ} {list : List ℕ} {count : ℕ} → Packs n timing places pack list count → Packs n timing places left list count
+  pub raised-packs : {n : ℕ} {timing : List (List ℕ)} {list : List ℕ} {count : ℕ} → Packs n timing pack list count → Packs n timing left list count
   raised-packs p = rw (raise .2) (record { limits = p .limits; tasks = p .tasks; ledger = p .ledger })
 
   pub raised-at : left .at ≡ pack .at
   raised-at = rw (raise .2) refl
 
-  pub raised-packed : {n : ℕ} {s : Tasks} {listing : Bool} {places : ℕ} {memory exclusions loads weights old : List ℕ} {before : ℕ} {new : List ℕ} (r : Packed)
-      → PackedAs n s listing places memory exclusions loads weights left old before new r → PackedAs n s listing places memory exclusions loads weights pack old before new r
-  raised-packed r a = let b = rw (raise .2) at a in record { ledger = b .ledger; grows = b .grows; no-less = omega (arith, raise .1, b .no-less); bounds = b .bounds }
+  pub raised-packed : {n : ℕ} {s : Tasks} {mode : Mode} {memory exclusions loads weights old : List ℕ} {before : ℕ} {new : List ℕ} (r : Packed)
+      → PackedAs n s mode memory exclusions loads weights left old before new r → PackedAs n s mode memory exclusions loads weights pack old before new r
+  raised-packed r a = let b = rw (raise .2) at a in record { list = b .list; no-less = omega (arith, raise .1, b .no-less); bounds = b .bounds }
 
 -- what can be taken is all still left, or it is within the best so far
-pub record Packing (n : ℕ) (s : Tasks) (listing : Bool) (places : ℕ) (memory exclusions loads weights : List ℕ) (pack : Pack) (old : List ℕ) (before left all top : ℕ) (list : List ℕ) (listed : ℕ)
+pub record Packing (n : ℕ) (s : Tasks) (mode : Mode) (memory exclusions loads weights : List ℕ) (pack : Pack) (old : List ℕ) (before left all top : ℕ) (new : List ℕ) (listed : ℕ)
     : Type 0 where
-  pub ledger : Ledger s places list listed
-  pub grows : Grows (Among pack) old before list listed
+  pub list : Extended (Among pack) s old before new listed
   pub no-less : pack .best ≤ top
   pub reaches : all ≡ pack .weight + weightOf n weights left
   pub inside : Subset left (pack .candidates)
-  pub bounds : (x : ℕ) → Takes n memory exclusions loads (Bad s listing list listed) (pack .on) (pack .space) (pack .spare) x → Subset x (pack .candidates)
+  pub bounds : (x : ℕ) → Takes n memory exclusions loads (Bad s (mode .listing) new listed) (pack .on) (pack .space) (pack .spare) x → Subset x (pack .candidates)
       → pack .weight + weightOf n weights x ≤ pack .stop → Subset x left ⊎ (pack .weight + weightOf n weights x ≤ top)
 
-pub packing-start : {n : ℕ} {timing : List (List ℕ)} {listing : Bool} {places : ℕ} {memory exclusions loads weights : List ℕ} {pack left : Pack} {old : List ℕ} {before : ℕ}
-    → Raised pack left → Packs n timing places pack old before → pack .reach ≡ pack .weight + weightOf n weights (pack .candidates)
-    → Packing n (tasksOf n timing) listing places memory exclusions loads weights left old before (left .candidates) (left .reach) (left .best) old before
+pub packing-start : {n : ℕ} {timing : List (List ℕ)} {mode : Mode} {memory exclusions loads weights : List ℕ} {pack left : Pack} {old : List ℕ} {before : ℕ}
+    → Raised pack left → Packs n timing pack old before → pack .reach ≡ pack .weight + weightOf n weights (pack .candidates)
+    → Packing n (tasksOf n timing) mode memory exclusions loads weights left old before (left .candidates) (left .reach) (left .best) old before
 packing-start raise p e = rw (raise .2) (record {
-  ledger = p .ledger;
-  grows = grows-refl;
+  list = extended-refl (p .ledger);
   no-less = omega arith;
   reaches = e;
   inside = λ k u. u;
   bounds = λ x w f h. inl f;
 })
 
-module _ {n : ℕ} {timing : List (List ℕ)} {listing : Bool} {places : ℕ} {memory exclusions loads weights : List ℕ} {pack : Pack} {old : List ℕ} {before : ℕ}
-    (p : Packs n timing places pack old before) where
+module _ {n : ℕ} {timing : List (List ℕ)} {mode : Mode} {memory exclusions loads weights : List ℕ} {pack : Pack} {old : List ℕ} {before : ℕ}
+    (p : Packs n timing pack old before) where
   module _ {left all top : ℕ} {list : List ℕ} {listed : ℕ}
-      (w : Packing n (tasksOf n timing) listing places memory exclusions loads weights pack old before left all top list listed) where
+      (w : Packing n (tasksOf n timing) mode memory exclusions loads weights pack old before left all top list listed) where
     module _ (k : ℕ) (u : T (has left k)) where
       pub packing-task : k < n
       packing-task = below-has n (pack .candidates) (p .tasks) k (w .inside k u)
@@ -163,22 +159,21 @@ module _ {n : ℕ} {timing : List (List ℕ)} {listing : Bool} {places : ℕ} {m
       packing-reach = omega (arith, w .reaches, sum-remove n left (λ j. getD weights j 0) k packing-task u)
 
       module _ {next : Pack} (same : Same pack next) (e : next .candidates ≡ removeOf left k) where
-        pub packing-packs : Packs n timing places next list listed
+        pub packing-packs : Packs n timing next list listed
         packing-packs = record {
           limits = with-set (p .limits) _ (rw (same .0) (p .limits .inside));
           tasks = rw e (subset-below n (removeOf left k) (pack .candidates) (λ j v. w .inside j (remove-subset left k j v)) (p .tasks));
-          ledger = w .ledger;
+          ledger = w .list .ledger;
         }
 
-        pub packing-next : next .best ≡ top → {new : List ℕ} (r : Packed) → TakenAs n (tasksOf n timing) listing places memory exclusions loads weights next k list listed new r
-            → Packing n (tasksOf n timing) listing places memory exclusions loads weights pack old before (removeOf left k) (all - getD weights k 0) (r .most) new (r .count)
+        pub packing-next : next .best ≡ top → {new : List ℕ} (r : Packed) → TakenAs n (tasksOf n timing) mode memory exclusions loads weights next k list listed new r
+            → Packing n (tasksOf n timing) mode memory exclusions loads weights pack old before (removeOf left k) (all - getD weights k 0) (r .most) new (r .count)
         packing-next b {new} r a = record {
-          ledger = a .ledger;
-          grows = grows-trans (w .grows) (grows-map (λ c f j v. among j (or-either (eqb j k) (joined (pack .on) (removeOf left k) j) (rw (same .0, e) at (f j v)))) (a .grows));
+          list = extended-trans (w .list) (extended-map (λ c f j v. among j (or-either (eqb j k) (joined (pack .on) (removeOf left k) j) (rw (same .0, e) at (f j v)))) (a .list));
           no-less = omega (arith, w .no-less, a .no-less);
           reaches = omega (arith, packing-reach);
           inside = λ j v. w .inside j (remove-subset left k j v);
-          bounds = λ x c f h. go x c h (w .bounds x (takes-map (λ y. bad-grows (tasksOf n timing) listing y (a .grows)) c) f h);
+          bounds = λ x c f h. go x c h (w .bounds x (takes-map (λ y. bad-grows (tasksOf n timing) (mode .listing) y (a .list .grows)) c) f h);
         }
           where
             among : (j : ℕ) → T (eqb j k) ⊎ T (joined (pack .on) (removeOf left k) j) → T (joined (pack .on) (pack .candidates) j)
@@ -187,7 +182,7 @@ module _ {n : ℕ} {timing : List (List ℕ)} {listing : Bool} {places : ℕ} {m
                 (λ y. or-right (has (pack .on) j) (has (pack .candidates) j) (w .inside j (remove-subset left k j y)))
                 (or-either (has (pack .on) j) (has (removeOf left k) j) v)
 
-            go : (x : ℕ) → Takes n memory exclusions loads (Bad (tasksOf n timing) listing new (r .count)) (pack .on) (pack .space) (pack .spare) x
+            go : (x : ℕ) → Takes n memory exclusions loads (Bad (tasksOf n timing) (mode .listing) new (r .count)) (pack .on) (pack .space) (pack .spare) x
                 → pack .weight + weightOf n weights x ≤ pack .stop → Subset x left ⊎ (pack .weight + weightOf n weights x ≤ top)
                 → Subset x (removeOf left k) ⊎ (pack .weight + weightOf n weights x ≤ r .most)
             go x c h (inr d) = inr (omega (arith, a .no-less))
@@ -203,10 +198,9 @@ module _ {n : ℕ} {timing : List (List ℕ)} {listing : Bool} {places : ℕ} {m
 
     -- the end: what is still left counts in full, unless the best is no less anyway
     pub packing-end : (most : ℕ) → top ≤ most → pack .stop ≤ most ⊎ all ≤ most
-        → PackedAs n (tasksOf n timing) listing places memory exclusions loads weights pack old before list (record { most = most; count = listed })
+        → PackedAs n (tasksOf n timing) mode memory exclusions loads weights pack old before list (record { most = most; count = listed })
     packing-end most a b = record {
-      ledger = w .ledger;
-      grows = w .grows;
+      list = w .list;
       no-less = omega (arith, w .no-less);
       bounds = λ x c f h. go x h b (w .bounds x c f h);
     }

@@ -8,7 +8,8 @@ use lib.ListN.{getD}
 use Rattle.mask.specs.Mask.{has, below, Subset, removeOf, sumOver}
 use Rattle.schedule.specs.Periodic.{Tasks}
 use Rattle.schedule.specs.Arrays.{tasksOf, InLimits}
-use Rattle.ledger.specs.Ledger.{Ledger, Grows, Bad}
+use Rattle.ledger.specs.declared.Mode.{Mode}
+use Rattle.ledger.specs.Ledger.{Ledger, Extended, Bad}
 use Rattle.packing.specs.declared.Pack.{Pack}
 use Rattle.packing.specs.declared.Packed.{Packed}
 
@@ -33,29 +34,27 @@ pub record Takes (n : ℕ) (memory exclusions loads : List ℕ) (B : (ℕ → Bo
   pub clear : B (joined on x) → ⊥
 
 -- what the calculation begins with: tasks within the limits, on the processor and candidates for it, and the list of conflicts
-pub record Packs (n : ℕ) (timing : List (List ℕ)) (places : ℕ) (pack : Pack) (list : List ℕ) (count : ℕ) : Type 0 where
+pub record Packs (n : ℕ) (timing : List (List ℕ)) (pack : Pack) (list : List ℕ) (count : ℕ) : Type 0 where
   pub limits : InLimits n timing (pack .on)
   pub tasks : T (below n (pack .candidates))
-  pub ledger : Ledger (tasksOf n timing) places list count
+  pub ledger : Ledger (tasksOf n timing) list count
 
 -- c holds only tasks that stand on the processor or are candidates for it
 abbrev pub Among : Pack → ℕ → Type 0
 Among pack c = (k : ℕ) → T (has c k) → T (joined (pack .on) (pack .candidates) k)
 
 -- a bound on the weight of what can be taken: of any such x among the candidates that comes to no more than `stop`
-pub record PackedAs (n : ℕ) (s : Tasks) (listing : Bool) (places : ℕ) (memory exclusions loads weights : List ℕ) (pack : Pack) (old : List ℕ) (before : ℕ) (new : List ℕ) (r : Packed) : Type 0
+pub record PackedAs (n : ℕ) (s : Tasks) (mode : Mode) (memory exclusions loads weights : List ℕ) (pack : Pack) (old : List ℕ) (before : ℕ) (new : List ℕ) (r : Packed) : Type 0
   where
-    pub ledger : Ledger s places new (r .count)
-    pub grows : Grows (Among pack) old before new (r .count)
+    pub list : Extended (Among pack) s old before new (r .count)
     pub no-less : pack .best ≤ r .most
-    pub bounds : (x : ℕ) → Takes n memory exclusions loads (Bad s listing new (r .count)) (pack .on) (pack .space) (pack .spare) x → Subset x (pack .candidates)
+    pub bounds : (x : ℕ) → Takes n memory exclusions loads (Bad s (mode .listing) new (r .count)) (pack .on) (pack .space) (pack .spare) x → Subset x (pack .candidates)
         → pack .weight + weightOf n weights x ≤ pack .stop → pack .weight + weightOf n weights x ≤ r .most
 
 -- the same of those x that have the candidate k, beside the other candidates
-pub record TakenAs (n : ℕ) (s : Tasks) (listing : Bool) (places : ℕ) (memory exclusions loads weights : List ℕ) (pack : Pack) (k : ℕ) (old : List ℕ) (before : ℕ) (new : List ℕ) (r : Packed)
+pub record TakenAs (n : ℕ) (s : Tasks) (mode : Mode) (memory exclusions loads weights : List ℕ) (pack : Pack) (k : ℕ) (old : List ℕ) (before : ℕ) (new : List ℕ) (r : Packed)
     : Type 0 where
-  pub ledger : Ledger s places new (r .count)
-  pub grows : Grows (λ c. (j : ℕ) → T (has c j) → T (eqb j k || joined (pack .on) (pack .candidates) j)) old before new (r .count)
+  pub list : Extended (λ c. (j : ℕ) → T (has c j) → T (eqb j k || joined (pack .on) (pack .candidates) j)) s old before new (r .count)
   pub no-less : pack .best ≤ r .most
-  pub bounds : (x : ℕ) → Takes n memory exclusions loads (Bad s listing new (r .count)) (pack .on) (pack .space) (pack .spare) x → T (has x k) → Subset (removeOf x k) (pack .candidates)
+  pub bounds : (x : ℕ) → Takes n memory exclusions loads (Bad s (mode .listing) new (r .count)) (pack .on) (pack .space) (pack .spare) x → T (has x k) → Subset (removeOf x k) (pack .candidates)
       → pack .weight + weightOf n weights x ≤ pack .stop → pack .weight + weightOf n weights x ≤ r .most

@@ -64,9 +64,9 @@ fn take<'a>(
     count: usize,
     known: &mut Known,
 ) -> Packed
-    requires { ⌜ Packs n (now timing) (mode .places) pack (now list) count
+    requires { ⌜ Packs n (now timing) pack (now list) count
         × (k < n) × (pack .reach ≡ pack .weight + getD (now weights) k 0 + weightOf n (now weights) (pack .candidates)) × Knows (tasksOf n (now timing)) (now known) ⌝ }
-    ensures { λ r. ⌜ TakenAs n (tasksOf n (now (timing .entry))) (mode .listing) (mode .places) (memoryRow (now (columns .entry))) (exclusionRow (now (columns .entry)))
+    ensures { λ r. ⌜ TakenAs n (tasksOf n (now (timing .entry))) mode (memoryRow (now (columns .entry))) (exclusionRow (now (columns .entry)))
         (loadRow (now (columns .entry))) (now (weights .entry)) pack k (now (list .entry)) count (now (list .exit)) r × Knows (tasksOf n (now (timing .entry))) (now (known .exit)) ⌝ }
 {
     if !room(columns, pack.on, pack.space, pack.spare, k) {
@@ -113,9 +113,9 @@ pub fn most<'a>(
     count: usize,
     known: &mut Known,
 ) -> Packed
-    requires { ⌜ Packs n (now timing) (mode .places) pack (now list) count
+    requires { ⌜ Packs n (now timing) pack (now list) count
         × (pack .reach ≡ pack .weight + weightOf n (now weights) (pack .candidates)) × Knows (tasksOf n (now timing)) (now known) ⌝ }
-    ensures { λ r. ⌜ PackedAs n (tasksOf n (now (timing .entry))) (mode .listing) (mode .places) (memoryRow (now (columns .entry))) (exclusionRow (now (columns .entry)))
+    ensures { λ r. ⌜ PackedAs n (tasksOf n (now (timing .entry))) mode (memoryRow (now (columns .entry))) (exclusionRow (now (columns .entry)))
         (loadRow (now (columns .entry))) (now (weights .entry)) pack (now (list .entry)) count (now (list .exit)) r × Knows (tasksOf n (now (timing .entry))) (now (known .exit)) ⌝ }
 {
     let mut left = pack;

@@ -19,11 +19,11 @@ use Rattle.rules.specs.Sets.{standing}
 use Rattle.timing.specs.Timing.{tasksIn}
 use Rattle.judge.specs.Judge.{PlacementOf}
 use Rattle.timing.proofs.Limits.{valid-tasks, constrained-tasks}
-use Rattle.ledger.specs.Ledger.{Covered, Ledger, Grows, Clear}
+use Rattle.ledger.specs.Ledger.{Covered, Ledger, full, Extended, Clear}
 use Rattle.partial.specs.Partial.{Partial}
 use Rattle.goal.specs.Order.{EarlierThan}
 use Rattle.region.specs.Region.{Within, Refuted, Met, Witness, Uncovered, Marked, Settled}
-use Rattle.ledger.proofs.Growth.{grows-refl, grows-trans, grows-map, covered-grows, covered-back}
+use Rattle.ledger.proofs.Growth.{extended-refl, extended-trans, extended-map, full-stays, covered-grows, covered-back}
 use Rattle.ledger.proofs.Verdicts.{clear-uncovered}
 use Rattle.rules.proofs.Placed.{placed-at, placed-is}
 use Rattle.region.proofs.Filling.{whole-placement}
@@ -41,78 +41,75 @@ uncovered-map f u = record {
 
 -- ---- settled regions
 
-module _ {t : Table} {places : ℕ} where
-  pub settled-nothing : {list : List ℕ} {count : ℕ} {cut : Bool} → Ledger (tasksIn t) places list count → Settled t places (λ q. ⊥) list count cut list count cut
-  settled-nothing {list} {count} {cut} w = record { refuted = λ q _ none. absurd none; ledger = w; grows = grows-refl; mark = go cut }
+module _ {t : Table} where
+  pub settled-nothing : {list : List ℕ} {count : ℕ} {cut : Bool} → Ledger (tasksIn t) list count → Settled t (λ q. ⊥) list count cut list count cut
+  settled-nothing {list} {count} {cut} w = record { refuted = λ q _ none. absurd none; list = extended-refl w; mark = go cut }
     where
-      go : (cut : Bool) → Marked t places (λ q. ⊥) cut list count cut
+      go : (cut : Bool) → Marked t (λ q. ⊥) cut list count cut
       go false = (refl, λ q _ none. absurd none)
       go true = inl refl
 
   pub settled-region : {P Q : List ℕ → Type 0} {a b : List ℕ} {i j : ℕ} {x y : Bool}
-      → ((q : List ℕ) → PlacementOf t q → P q → Q q) → ((q : List ℕ) → PlacementOf t q → Q q → P q) → Settled t places P a i x b j y → Settled t places Q a i x b j y
+      → ((q : List ℕ) → PlacementOf t q → P q → Q q) → ((q : List ℕ) → PlacementOf t q → Q q → P q) → Settled t P a i x b j y → Settled t Q a i x b j y
   settled-region {P} {Q} {b = b} {j = j} {x} {y} f g s = record {
     refuted = λ q w u. s .refuted q w (g q w u);
-    ledger = s .ledger;
-    grows = grows-map (λ c. met-map f) (s .grows);
+    list = extended-map (λ c. met-map f) (s .list);
     mark = go y (s .mark);
   }
     where
-      go : (y : Bool) → Marked t places P x b j y → Marked t places Q x b j y
+      go : (y : Bool) → Marked t P x b j y → Marked t Q x b j y
       go false m = (m .0, λ q w u. m .1 q w (g q w u))
       go true (inl e) = inl e
       go true (inr m) = inr (m .0, uncovered-map f (m .1))
 
   -- one region after another; where the list was full after the first, it stayed as it was
   pub settled-then : {P Q : List ℕ → Type 0} {a b c : List ℕ} {i j k : ℕ} {x y z : Bool}
-      → Settled t places P a i x b j y → Settled t places Q b j y c k z → Settled t places (λ q. P q ⊎ Q q) a i x c k z
+      → Settled t P a i x b j y → Settled t Q b j y c k z → Settled t (λ q. P q ⊎ Q q) a i x c k z
   settled-then {P} {Q} {a} {b} {c} {i} {j} {k} {x} {y} {z} s r = record {
     refuted = λ q w. ⊎-elim (s .refuted q w) (r .refuted q w);
-    ledger = r .ledger;
-    grows = grows-trans (grows-map (λ n. met-map (λ q w. inl)) (s .grows)) (grows-map (λ n. met-map (λ q w. inr)) (r .grows));
+    list = extended-trans (extended-map (λ n. met-map (λ q w. inl)) (s .list)) (extended-map (λ n. met-map (λ q w. inr)) (r .list));
     mark = go y z (s .mark) (r .mark);
   }
     where
-      go : (y z : Bool) → Marked t places P x b j y → Marked t places Q y c k z → Marked t places (λ q. P q ⊎ Q q) x c k z
+      go : (y z : Bool) → Marked t P x b j y → Marked t Q y c k z → Marked t (λ q. P q ⊎ Q q) x c k z
       go false false (e, m) (_, n) =
-          (e, λ q w. ⊎-elim (λ u v. let h = m q w u v in (h .0, covered-grows (r .grows) (h .1))) (n q w))
+          (e, λ q w. ⊎-elim (λ u v. let h = m q w u v in (h .0, covered-grows (r .list .grows) (h .1))) (n q w))
       go true false m (e, n) = absurd (true≢false e)
       go y true m (inr (e, u)) = inr (e, uncovered-map (λ q w. inr) u)
       go false true m (inl e) = absurd (false≢true e)
       go true true (inl e) (inl _) = inl e
       go true true (inr (e, u)) (inl _) =
-          let full : j ≡ k = omega (arith, r .ledger .room, r .grows .more) in
+          let same = full-stays (r .list) e in
           inr (
-            omega arith,
+            rw (r .list .grows .long, ← same) e,
             record {
               placement = u .placement;
               whole = u .whole;
               inside = inl (u .inside);
               keeps = u .keeps;
-              holds-none = λ p v. u .holds-none p (covered-back full (r .grows) v);
+              holds-none = λ p v. u .holds-none p (covered-back same (r .list .grows) v);
             },
           )
 
   -- a region all of whose placements hold a listed conflict
   pub settled-covered : {P : List ℕ → Type 0} {a b : List ℕ} {i j : ℕ}
-      → Refuted t (LateSet (tasksIn t)) P → Ledger (tasksIn t) places b j → Grows (Met t P) a i b j → Refuted t (Covered b j) P → Settled t places P a i false b j false
-  settled-covered late w g covered = record { refuted = late; ledger = w; grows = g; mark = (refl, covered) }
+      → Refuted t (LateSet (tasksIn t)) P → Extended (Met t P) (tasksIn t) a i b j → Refuted t (Covered b j) P → Settled t P a i false b j false
+  settled-covered late w covered = record { refuted = late; list = w; mark = (refl, covered) }
 
   -- a region that is passed over once the mark is cut
   pub settled-passed : {P : List ℕ → Type 0} {b : List ℕ} {j : ℕ}
-      → Refuted t (LateSet (tasksIn t)) P → Ledger (tasksIn t) places b j → Settled t places P b j true b j true
-  settled-passed late w = record { refuted = late; ledger = w; grows = grows-refl; mark = inl refl }
+      → Refuted t (LateSet (tasksIn t)) P → Ledger (tasksIn t) b j → Settled t P b j true b j true
+  settled-passed late w = record { refuted = late; list = extended-refl w; mark = inl refl }
 
   -- a region with a placement that keeps the rules and holds none of a full list
   pub settled-cut : {on : ℕ → ℕ → Bool} {sets a b : List ℕ} {i j : ℕ}
-      → Sound t → Refuted t (LateSet (tasksIn t)) (Within on) → Ledger (tasksIn t) places b j → Grows (Met t (Within on)) a i b j
-      → Witness t (Clear (tasksIn t) true places b j) on sets → Settled t places (Within on) a i false b j true
-  settled-cut {on} {sets} {b = b} {j = j} sound late w g v = record {
+      → Sound t → Refuted t (LateSet (tasksIn t)) (Within on) → Extended (Met t (Within on)) (tasksIn t) a i b j
+      → Witness t (Clear (tasksIn t) true b j) on sets → Settled t (Within on) a i false b j true
+  settled-cut {on} {sets} {b = b} {j = j} sound late w v = record {
     refuted = late;
-    ledger = w;
-    grows = g;
+    list = w;
     mark = inr (
-      full (v .clear (found .0)) (subst (LateSet (tasksIn t)) (same (found .0)) (found .1)),
+      no-room (v .clear (found .0)) (subst (LateSet (tasksIn t)) (same (found .0)) (found .1)),
       record {
         placement = q;
         whole = l .1;
@@ -141,12 +138,12 @@ module _ {t : Table} {places : ℕ} where
       found : (p : ℕ) × LateSet (tasksIn t) (λ k. placed q k p)
       found = late q (l .1) inside keeps
 
-      full : {x : ℕ → Bool} → Clear (tasksIn t) true places b j x → LateSet (tasksIn t) x → j ≡ places
-      full (inl f) u = absurd (f u)
-      full (inr f) u = f .0
+      no-room : {x : ℕ → Bool} → Clear (tasksIn t) true b j x → LateSet (tasksIn t) x → T (full b j)
+      no-room (inl f) u = absurd (f u)
+      no-room (inr f) u = f .0
 
-      none : (p : ℕ) → Clear (tasksIn t) true places b j (has (getD sets p 0)) → Covered b j (has (getD sets p 0)) → ⊥
-      none p (inl f) = clear-uncovered (valid-tasks sound) (constrained-tasks sound) w f
+      none : (p : ℕ) → Clear (tasksIn t) true b j (has (getD sets p 0)) → Covered b j (has (getD sets p 0)) → ⊥
+      none p (inl f) = clear-uncovered (valid-tasks sound) (constrained-tasks sound) (w .ledger) f
       none p (inr f) = f .1
 
 -- ---- the search for the first placement: task k is the next
@@ -158,15 +155,15 @@ narrow on k p e w = (λ j r u. w j r (and-part on k p j r u), placed-is e k p (w
 widen : {t : Table} {e : List ℕ} (on : ℕ → ℕ → Bool) (k p : ℕ) → PlacementOf t e → k < t .tasks .count → Within on e → getD e k 0 ≡ p → Within (andTask on k p) e
 widen {e = e} on k p v l w q = and-within on k p (placed e) w (subst (λ (r : ℕ). T (placed e k r)) q (placed-at e k (omega (arith, v .long))))
 
-module _ {t : Table} {places : ℕ} (on : ℕ → ℕ → Bool) {k : ℕ} where
+module _ {t : Table} (on : ℕ → ℕ → Bool) {k : ℕ} where
   -- no processor of it was tried
-  pub first-start : {a b : List ℕ} {i j : ℕ} {x y : Bool} → Settled t places (λ q. ⊥) a i x b j y → Settled t places (λ e. Within on e × (getD e k 0 < 0)) a i x b j y
+  pub first-start : {a b : List ℕ} {i j : ℕ} {x y : Bool} → Settled t (λ q. ⊥) a i x b j y → Settled t (λ e. Within on e × (getD e k 0 < 0)) a i x b j y
   first-start = settled-region (λ q w none. absurd none) (λ e w u. omega (arith, u .1))
 
   -- the next processor is passed over
   pub first-pass : {p : ℕ} {a b c : List ℕ} {i j l : ℕ} {x y z : Bool}
-      → Settled t places (λ e. Within on e × (getD e k 0 < p)) a i x b j y → Settled t places (Within (andTask on k p)) b j y c l z
-      → k < t .tasks .count → Settled t places (λ e. Within on e × (getD e k 0 < p + 1)) a i x c l z
+      → Settled t (λ e. Within on e × (getD e k 0 < p)) a i x b j y → Settled t (Within (andTask on k p)) b j y c l z
+      → k < t .tasks .count → Settled t (λ e. Within on e × (getD e k 0 < p + 1)) a i x c l z
   first-pass {p} s r task = settled-region forth back (settled-then s r)
     where
       forth : (e : List ℕ) → PlacementOf t e → (Within on e × (getD e k 0 < p)) ⊎ Within (andTask on k p) e → Within on e × (getD e k 0 < p + 1)
@@ -183,8 +180,8 @@ module _ {t : Table} {places : ℕ} (on : ℕ → ℕ → Bool) {k : ℕ} where
   -- it is taken on p: what is earlier has it on a lower processor, or on p and is earlier in the rest
   pub first-step : {p : ℕ} {sets a b c : List ℕ} {i j l : ℕ} {x y z : Bool}
       → ((j : ℕ) → j < k → (r : ℕ) × T (on j r)) → Part (andTask on k p) (standing sets) → Partial t sets
-      → Settled t places (λ e. Within on e × (getD e k 0 < p)) a i x b j y → Settled t places (λ e. Within (andTask on k p) e × EarlierThan (standing sets) e) b j y c l z
-      → k < t .tasks .count → Settled t places (λ e. Within on e × EarlierThan (standing sets) e) a i x c l z
+      → Settled t (λ e. Within on e × (getD e k 0 < p)) a i x b j y → Settled t (λ e. Within (andTask on k p) e × EarlierThan (standing sets) e) b j y c l z
+      → k < t .tasks .count → Settled t (λ e. Within on e × EarlierThan (standing sets) e) a i x c l z
   first-step {p} {sets} placed-below part all s r task = settled-region forth back (settled-then s r)
     where
       here : T (standing sets k p)
@@ -209,6 +206,6 @@ module _ {t : Table} {places : ℕ} (on : ℕ → ℕ → Bool) {k : ℕ} where
           go (no l) (no d) = inr (widen on k p v task w (all .once k (getD e k 0) p (f .same k (omega arith)) here), f)
 
 -- all tasks are placed: of the placements that have them there, none is earlier
-pub first-end : {t : Table} {places : ℕ} (sets : List ℕ) {a b : List ℕ} {i j : ℕ} {x y : Bool}
-    → Settled t places (λ q. ⊥) a i x b j y → Settled t places (λ e. Within (standing sets) e × EarlierThan (standing sets) e) a i x b j y
+pub first-end : {t : Table} (sets : List ℕ) {a b : List ℕ} {i j : ℕ} {x y : Bool}
+    → Settled t (λ q. ⊥) a i x b j y → Settled t (λ e. Within (standing sets) e × EarlierThan (standing sets) e) a i x b j y
 first-end sets = settled-region (λ q w none. absurd none) (λ e w (u, f). omega (arith, f .lower, placed-is e (f .task) (f .processor) (u (f .task) (f .processor) (f .stands)) .1))

@@ -1,3 +1,4 @@
 pub mod Region
 pub mod Lends
 pub mod Begins
+pub mod Given

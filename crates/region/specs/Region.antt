@@ -14,7 +14,7 @@ use Rattle.rules.specs.Rules.{Keeps, residenceBroken}
 use Rattle.rules.specs.Sets.{standing}
 use Rattle.timing.specs.Timing.{tasksIn}
 use Rattle.judge.specs.Judge.{PlacementOf}
-use Rattle.ledger.specs.Ledger.{Covered, Ledger, Grows}
+use Rattle.ledger.specs.Ledger.{Covered, full, Extended}
 use Rattle.partial.specs.Partial.{Whole}
 
 -- the placements that have each task where `on` has it
@@ -51,13 +51,12 @@ pub record Uncovered (t : Table) (P : List ℕ → Type 0) (list : List ℕ) (co
 
 -- whether the list was found cut, before a region and after it: every placement of the region that keeps the rules holds a listed conflict,
 -- or the list is full and one holds none
-abbrev pub Marked : Table → ℕ → (List ℕ → Type 0) → Bool → List ℕ → ℕ → Bool → Type 0
-Marked t places P before list count false = (before ≡ false) × Refuted t (Covered list count) P
-Marked t places P before list count true = (before ≡ true) ⊎ ((count ≡ places) × Uncovered t P list count)
+abbrev pub Marked : Table → (List ℕ → Type 0) → Bool → List ℕ → ℕ → Bool → Type 0
+Marked t P before list count false = (before ≡ false) × Refuted t (Covered list count) P
+Marked t P before list count true = (before ≡ true) ⊎ (T (full list count) × Uncovered t P list count)
 
 -- a region without a good placement is dealt with: the list has grown by conflicts that it holds, and the mark is right
-pub record Settled (t : Table) (places : ℕ) (P : List ℕ → Type 0) (old : List ℕ) (before : ℕ) (cut-before : Bool) (new : List ℕ) (count : ℕ) (cut : Bool) : Type 0 where
+pub record Settled (t : Table) (P : List ℕ → Type 0) (old : List ℕ) (before : ℕ) (cut-before : Bool) (new : List ℕ) (count : ℕ) (cut : Bool) : Type 0 where
   pub refuted : Refuted t (LateSet (tasksIn t)) P
-  pub ledger : Ledger (tasksIn t) places new count
-  pub grows : Grows (Met t P) old before new count
-  pub mark : Marked t places P cut-before new count cut
+  pub list : Extended (Met t P) (tasksIn t) old before new count
+  pub mark : Marked t P cut-before new count cut

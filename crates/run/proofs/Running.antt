@@ -3,7 +3,7 @@ use mathlib.Core.Path.{_≡_, refl, subst, _∙_}
 use mathlib.Core.Logic.{inl}
 use mathlib.Core.Bool.{Bool, true, false}
 use mathlib.Core.List.{List}
-use Prim.Native.Nat.{ℕ, _+_, _*_, _≤_, _<_}
+use Prim.Native.Nat.{ℕ, _≤_, _<_}
 use native.Mathlib.Omega.{arith}
 use lib.Dec.{T}
 use lib.ListN.{length, getD}
@@ -15,6 +15,7 @@ use Rattle.schedule.specs.Arrays.{InLimits}
 use Rattle.rules.specs.Sets.{standing}
 use Rattle.timing.specs.Timing.{timingOf}
 use Rattle.timing.proofs.Limits.{limits-of, none-below}
+use Rattle.ledger.specs.Ledger.{lists}
 use Rattle.ledger.proofs.Append.{ledger-start}
 use Rattle.columns.specs.Columns.{columnsOf, messagesOf}
 use Rattle.partial.specs.declared.Sizes.{Sizes}
@@ -25,10 +26,10 @@ use Rattle.region.specs.Lends.{Lends}
 use Rattle.region.proofs.Settling.{settled-region, settled-covered, settled-cut}
 use Rattle.region.specs.Begins.{Begins, Ready}
 use Rattle.deciding.specs.declared.Decided.{Decided}
-use Rattle.deciding.specs.declared.Covering.{Covering}
+use Rattle.deciding.specs.declared.Listed.{Listed}
 use Rattle.deciding.specs.Deciding.{DecidedAs, CutAs, CoveringAs}
 use Rattle.first.specs.declared.Reached.{Reached}
-use Rattle.first.specs.First.{InTime, Placing, FirstOf}
+use Rattle.first.specs.First.{InTime, Placing, nothing, FirstOf}
 use Rattle.guide.specs.Guided.{Guided}
 use Rattle.run.specs.Run.{SizesOf, RanAs}
 
@@ -44,8 +45,8 @@ module _ {t : Table} (h : Sound t) {s : State} (w : Started t s) where
   pub start-deciding : Ready t s
   start-deciding = record { fits = w .fits; in-time = idle }
 
-  module _ (places : ℕ) (list : List ℕ) (room : 6 * places + 3 ≤ length list) where
-    pub start-listing : Begins t true places s list 0
+  module _ (list : List ℕ) (room : 3 ≤ length list) where
+    pub start-listing : Begins t lists s list 0
     start-listing = record { fits = w .fits; ledger = ledger-start room; clear = λ p. inl (idle p) }
 
     module _ (d : Decided) (x : DecidedAs (d .found) t (standing (s .on)) (d .on)) where
@@ -53,7 +54,7 @@ module _ {t : Table} (h : Sound t) {s : State} (w : Started t s) where
       decided b e = subst (λ (a : Bool). DecidedAs a t (standing (s .on)) (d .on)) e x
 
       -- a good placement is found: the search for the first one begins
-      pub start-placing : d .found ≡ true → Placing t places s 0 (d .on) list 0
+      pub start-placing : d .found ≡ true → Placing t s 0 (d .on) list 0
       start-placing e = record {
         fits = w .fits;
         ledger = ledger-start room;
@@ -68,15 +69,15 @@ module _ {t : Table} (h : Sound t) {s : State} (w : Started t s) where
           go j l false f g = let i = w .fits .placed-task j l g in absurd (w .nothing j (i .0) (i .1))
 
       -- there is none: the conflicts of all placements are listed
-      pub ran-none : d .found ≡ false → {new : List ℕ} (r : Covering) → CoveringAs t places (standing (s .on)) list 0 new r → (sets : List ℕ)
-          → RanAs t places list new (record { found = false; on = sets; count = r .count; cut = r .cut })
+      pub ran-none : d .found ≡ false → {new : List ℕ} (r : Listed) → CoveringAs t (standing (s .on)) list 0 new r → (sets : List ℕ)
+          → RanAs t list new (record { found = false; on = sets; listed = r })
       ran-none e {new} r y sets = settled-region (λ q i u. tt) (λ q i u. everywhere q) (go (r .cut) (y .mark))
         where
-          go : (b : Bool) → CutAs b t places (standing (s .on)) new (r .count) → Settled t places (Within (standing (s .on))) list 0 false new (r .count) b
-          go false a = settled-covered (decided false e) (y .ledger) (y .grows) a
-          go true a = settled-cut h (decided false e) (y .ledger) (y .grows) (a .1)
+          go : (b : Bool) → CutAs b t (standing (s .on)) new (r .count) → Settled t (Within (standing (s .on))) list 0 false new (r .count) b
+          go false a = settled-covered (decided false e) (y .list) a
+          go true a = settled-cut h (decided false e) (y .list) (a .1)
 
-    pub ran-found : {new : List ℕ} (r : Reached) → FirstOf t places s list 0 false new r → RanAs t places list new (record { found = true; on = r .on; count = r .count; cut = r .cut })
+    pub ran-found : {new : List ℕ} (r : Reached) → FirstOf t s list nothing new r → RanAs t list new (record { found = true; on = r .on; listed = r .listed })
     ran-found r f = (
       record { part = λ k p. absurd; whole = f .good .whole; keeps = f .good .keeps; clear = f .good .clear },
       settled-region (λ q i u. u .1) (λ q i u. (everywhere q, u)) (f .settled),

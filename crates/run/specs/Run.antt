@@ -7,8 +7,8 @@ use Rattle.table.specs.declared.Table.{Table}
 use Rattle.rules.specs.Sets.{standing}
 use Rattle.partial.specs.declared.Sizes.{Sizes}
 use Rattle.goal.specs.Order.{EarlierThan}
-use Rattle.region.specs.Region.{Witness, Settled}
-use Rattle.first.specs.First.{InTime}
+use Rattle.region.specs.Region.{Witness}
+use Rattle.first.specs.First.{InTime, nothing, SettledBy}
 use Rattle.run.specs.declared.Ran.{Ran}
 
 -- how many there are of each in the table
@@ -18,9 +18,9 @@ pub record SizesOf (t : Table) (r : Sizes) : Type 0 where
   pub messages : r .messages ≡ t .messages .count
 
 -- the first good placement of all and every earlier one settled; or all placements settled
-abbrev pub RunsAs : Bool → Table → ℕ → List ℕ → List ℕ → Ran → Type 0
-RunsAs true t places old new r = Witness t (InTime t) (λ k p. false) (r .on) × Settled t places (EarlierThan (standing (r .on))) old 0 false new (r .count) (r .cut)
-RunsAs false t places old new r = Settled t places (λ e. Unit {0}) old 0 false new (r .count) (r .cut)
+abbrev pub RunsAs : Bool → Table → List ℕ → List ℕ → Ran → Type 0
+RunsAs true t old new r = Witness t (InTime t) (λ k p. false) (r .on) × SettledBy t (EarlierThan (standing (r .on))) old nothing new (r .listed)
+RunsAs false t old new r = SettledBy t (λ e. Unit {0}) old nothing new (r .listed)
 
-abbrev pub RanAs : Table → ℕ → List ℕ → List ℕ → Ran → Type 0
-RanAs t places old new r = RunsAs (r .found) t places old new r
+abbrev pub RanAs : Table → List ℕ → List ℕ → Ran → Type 0
+RanAs t old new r = RunsAs (r .found) t old new r

@@ -1,28 +1,29 @@
 // The search on a table: its rows, and those that guide the search, are made once; then the first placement, or the conflicts of all.
-ghost use Prim.Native.Nat.{_+_, _*_, _≤_};
+ghost use Prim.Native.Nat.{_≤_};
 ghost use lib.ListN.{length};
-ghost use Rattle.table.specs.declared.Table.{Table};
 ghost use Rattle.table.specs.Sound.{Sound};
 ghost use Rattle.partial.specs.Start.{Started};
-ghost use Rattle.region.specs.Lends.{Lends};
+ghost use Rattle.region.specs.Given.{Given, Gives};
 ghost use Rattle.memo.specs.Memo.{Learnt};
 ghost use Rattle.run.specs.Run.{SizesOf, RanAs};
 use columns::Columns;
 use columns::Messages;
+use deciding::Listed;
 use known::Known;
 use memo::Memo;
+use notes::CREDIT;
 use notes::Notes;
+use notes::RANDOM;
 use partial::Sizes;
 use partial::State;
 use schedule::Timing;
 use table::Table;
 
-// Whether there is a placement, the sets of the first, how many conflicts are listed, and whether the list is cut.
+// Whether there is a placement, the sets of the first, and what is listed.
 pub struct Ran {
     pub found: bool,
     pub on: [u32; 8],
-    pub count: usize,
-    pub cut: bool,
+    pub listed: Listed,
 }
 
 // The search from the empty placement s: the first good one, or the conflicts of all.
@@ -33,18 +34,23 @@ fn run<'a>(
     sizes: Sizes,
     s: State,
     list: &mut [u8],
-    places: usize,
     notes: &mut Notes,
     known: &mut Known,
     memo: &mut Memo,
 ) -> Ran
-    requires { ⌜ ((t : Table) × Lends t sizes (now timing) (now columns) (now messages) × Started t s × Learnt t (now columns) (now known) (now memo)) × (6 * places + 3 ≤ length (now list)) ⌝ }
-    ensures { λ r. ⌜ ((t : Table) → Lends t sizes (now (timing .entry)) (now (columns .entry)) (now (messages .entry))
-        → Started t s → Learnt t (now (columns .entry)) (now (known .entry)) (now (memo .entry)) → RanAs t places (now (list .entry)) (now (list .exit)) r) ⌝ }
+    requires { ⌜ Given sizes (now timing) (now columns) (now messages) (λ t. Started t s) (λ t. Learnt t (now columns) (now known) (now memo))
+        × (3 ≤ length (now list)) ⌝ }
+    ensures { λ r. ⌜ Gives sizes (now (timing .entry)) (now (columns .entry)) (now (messages .entry))
+        (λ t. Started t s) (λ t. Learnt t (now (columns .entry)) (now (known .entry)) (now (memo .entry)))
+        (λ t. RanAs t (now (list .entry)) (now (list .exit)) r) ⌝ }
 {
     let decided = deciding::decide(timing, columns, messages, sizes, s, notes, known, memo);
     if decided.found {
         let witness = decided.on;
+        let nothing = Listed {
+            cut: false,
+            count: 0,
+        };
         let reached = first::first(
             timing,
             columns,
@@ -54,19 +60,17 @@ fn run<'a>(
             0,
             witness,
             list,
-            places,
-            0,
-            false,
+            nothing,
             notes,
             known,
             memo,
         );
         let on = reached.on;
+        let listed = reached.listed;
         return Ran {
             found: true,
             on,
-            count: reached.count,
-            cut: reached.cut,
+            listed,
         };
     }
     let listed = deciding::cover(
@@ -76,7 +80,6 @@ fn run<'a>(
         sizes,
         s,
         list,
-        places,
         0,
         notes,
         known,
@@ -86,8 +89,7 @@ fn run<'a>(
     Ran {
         found: false,
         on,
-        count: listed.count,
-        cut: listed.cut,
+        listed,
     }
 }
 
@@ -106,9 +108,9 @@ fn sizes_of(table: Table) -> Sizes
 }
 
 // The search on a table that was read: its rows are made once and lent. The list is the answer's part after the head.
-pub fn run_table(table: Table, list: &mut [u8], places: usize) -> Ran
-    requires { ⌜ Sound table × (6 * places + 3 ≤ length (now list)) ⌝ }
-    ensures { λ r. ⌜ RanAs table places (now (list .entry)) (now (list .exit)) r ⌝ }
+pub fn run_table(table: Table, list: &mut [u8]) -> Ran
+    requires { ⌜ Sound table × (3 ≤ length (now list)) ⌝ }
+    ensures { λ r. ⌜ RanAs table (now (list .entry)) (now (list .exit)) r ⌝ }
 {
     let sizes = sizes_of(table);
     let timing = timing::timing_of(table);
@@ -118,8 +120,8 @@ pub fn run_table(table: Table, list: &mut [u8], places: usize) -> Ran
     let columns = guide::guided(&timing, &rows, &messages, sizes, s);
     // The search's own numbers: where the random numbers begin, and one try for the bound.
     let mut notes = [0u32; 64];
-    notes[24] = 2463534242;
-    notes[25] = 1;
+    notes[RANDOM] = 2463534242;
+    notes[CREDIT] = 1;
     let mut known = [0u32; 16384];
     let mut memo = [0u64; 12288];
     run(
@@ -129,7 +131,6 @@ pub fn run_table(table: Table, list: &mut [u8], places: usize) -> Ran
         sizes,
         s,
         list,
-        places,
         &mut notes,
         &mut known,
         &mut memo,

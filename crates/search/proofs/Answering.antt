@@ -3,11 +3,10 @@ use mathlib.Core.Path.{_≡_, sym, subst, _∙_}
 use mathlib.Core.Logic.{⊎-elim}
 use mathlib.Core.Bool.{Bool, true, false, not}
 use mathlib.Core.List.{List}
-use Prim.Native.Nat.{ℕ, _≤_, _<_}
+use Prim.Native.Nat.{ℕ, _+_, _*_, _<_}
 use native.Mathlib.Omega.{arith}
-use native.Mathlib.Decide.{decLt}
-use lib.Dec.{T}
-use lib.ListN.{length, getD, List·getD-eq-default}
+use lib.Dec.{T, ltb→lt}
+use lib.ListN.{length, getD}
 use Rattle.table.specs.declared.Table.{Table}
 use Rattle.table.specs.Sound.{Sound}
 use Rattle.schedule.specs.Periodic.{LateSet}
@@ -26,7 +25,6 @@ use Rattle.goal.proofs.Mark.{on-one, mark-complete, mark-cut, met-intro}
 use Rattle.ledger.specs.Ledger.{masksIn, Covered}
 use Rattle.ledger.proofs.Masks.{masks-long, masks-get}
 use Rattle.region.specs.Region.{Witness, Marked, Settled}
-use Rattle.rules.proofs.Placed.{placed-at, placed-is}
 use Rattle.first.specs.First.{InTime}
 
 -- a good placement, as the list of its processors
@@ -52,7 +50,7 @@ module _ {t : Table} {sets q : List ℕ} (a : AsList t sets q) {e : List ℕ} wh
 
 -- the list of a settled region that is what 01 calls earlier
 module _ {t : Table} (h : Sound t) {P : List ℕ → Type 0} (forth : (e : List ℕ) → PlacementOf t e → P e → Before t e) (back : (e : List ℕ) → PlacementOf t e → Before t e → P e)
-    {places count : ℕ} {old new : List ℕ} {cut : Bool} (w : Settled t places P old 0 false new count cut) where
+    {count : ℕ} {old new : List ℕ} {cut : Bool} (w : Settled t P old 0 false new count cut) where
   abbrev cs : List ℕ
   cs = masksIn new count
 
@@ -61,9 +59,9 @@ module _ {t : Table} (h : Sound t) {P : List ℕ → Type 0} (forth : (e : List 
 
   pub settled-listed : Listed t cs
   settled-listed = record {
-    different = λ i j a b e. w .ledger .different i j (get i a .0) (get j b .0) (sym (get i a .1) ∙ e ∙ get j b .1);
-    minimal = λ j l. subst (Minimal (tasksIn t)) (sym (get j l .1)) (w .ledger .minimal j (get j l .0));
-    met = λ j l. let m = w .grows .added j (omega arith) (get j l .0) in
+    different = λ i j a b e. w .list .ledger .different i j (get i a .0) (get j b .0) (sym (get i a .1) ∙ e ∙ get j b .1);
+    minimal = λ j l. subst (Minimal (tasksIn t)) (sym (get j l .1)) (w .list .ledger .minimal j (get j l .0));
+    met = λ j l. let m = w .list .grows .added j (omega arith) (get j l .0) in
         rw (get j l .1) (met-intro h (maskAt new j) (m .whole) (forth (m .placement) (m .whole) (m .inside)) (m .resides) (on-one h (m .whole) (maskAt new j) (m .processor) (m .holds)));
   }
 
@@ -73,7 +71,7 @@ module _ {t : Table} (h : Sound t) {P : List ℕ → Type 0} (forth : (e : List 
   covered-holds : {e : List ℕ} → PlacementOf t e → (p : ℕ) → Covered new count (λ k. placed e k p) → HoldsListed t cs e
   covered-holds v p c = (c .number, rw (masks-long new count) (c .listed), on-one h v (getD cs (c .number) 0) p (λ k u. c .inside k (rw (masks-get new count (c .number) (c .listed)) at u)))
 
-  marked : (b : Bool) → Marked t places P false new count b → markOf t cs ≡ not b
+  marked : (b : Bool) → Marked t P false new count b → markOf t cs ≡ not b
   marked false m = mark-complete h cs (λ e v before keeps. let s = m .1 e v (back e v before) keeps in covered-holds v (s .0) (s .1))
   marked true m = ⊎-elim (λ e. absurd (subst (λ (x : Bool). T (not x)) e tt))
       (λ u. mark-cut h cs (u .1 .whole) (forth (u .1 .placement) (u .1 .whole) (u .1 .inside)) (u .1 .keeps) (λ x. let s = holds-covered (u .1 .placement) x in u .1 .holds-none (s .0) (s .1))) m
@@ -81,12 +79,10 @@ module _ {t : Table} (h : Sound t) {P : List ℕ → Type 0} (forth : (e : List 
   pub settled-mark : markOf t cs ≡ not cut
   settled-mark = marked cut (w .mark)
 
-  pub settled-room : length cs ≤ places
-  settled-room = rw (masks-long new count) (w .ledger .room)
-
-  pub settled-full : markOf t cs ≡ false → length cs ≡ places
-  settled-full e = rw (masks-long new count) (go cut (w .mark) (subst (λ (b : Bool). T (not b)) (sym (sym settled-mark ∙ e)) tt))
+  -- where the list is cut, one more conflict has no room
+  pub settled-full : markOf t cs ≡ false → length old < 6 * length cs + 9
+  settled-full e = omega (arith, masks-long new count, w .list .grows .long, go cut (w .mark) (subst (λ (b : Bool). T (not b)) (sym (sym settled-mark ∙ e)) tt))
     where
-      go : (b : Bool) → Marked t places P false new count b → T (not (not b)) → count ≡ places
-      go true m u = ⊎-elim (λ f. absurd (subst (λ (x : Bool). T (not x)) f tt)) (λ x. x .0) m
+      go : (b : Bool) → Marked t P false new count b → T (not (not b)) → length new < 6 * count + 9
+      go true m u = ⊎-elim (λ f. absurd (subst (λ (x : Bool). T (not x)) f tt)) (λ x. ltb→lt (length new) (6 * count + 9) (x .0)) m
       go false m u = absurd u

@@ -34,10 +34,11 @@ use Rattle.first.specs.First.{InTime}
 use Rattle.run.specs.declared.Ran.{Ran}
 use Rattle.run.specs.Run.{RunsAs, RanAs}
 use Rattle.search.specs.Steps.{HeadBy}
-use Rattle.search.proofs.Answering.{AsList, witness-good, earlier-sets, sets-earlier, settled-listed, settled-mark, settled-room, settled-full}
+use Rattle.search.proofs.Answering.{AsList, witness-good, earlier-sets, sets-earlier, settled-listed, settled-mark, settled-full}
 
 -- the first good placement is found, and q is the list of its processors
-module _ {t : Table} (h : Sound t) {places count : ℕ} {old new sets : List ℕ} {cut : Bool} (w : Witness t (InTime t) (λ k p. false) sets) (s : Settled t places (EarlierThan (standing sets)) old 0 false new count cut) where
+module _ {t : Table} (h : Sound t) {count : ℕ} {old new sets : List ℕ} {cut : Bool} (w : Witness t (InTime t) (λ k p. false) sets)
+    (s : Settled t (EarlierThan (standing sets)) old 0 false new count cut) where
   earliest : {q : List ℕ} → AsList t sets q → (e : List ℕ) → PlacementOf t e → Earlier e q → Good t e → ⊥
   earliest a e v x g = let l = s .refuted e v (earlier-sets a x) (g .keeps) in g .in-time (l .0) (l .1)
 
@@ -45,21 +46,19 @@ module _ {t : Table} (h : Sound t) {places count : ℕ} {old new sets : List ℕ
   found-headed q v e = let a : AsList t sets q = record { placement = v; same = e } in found-head h (witness-good w a) (earliest a)
 
 -- what the answer's list is known to be
-pub record Final (t : Table) (places : ℕ) (old new : List ℕ) (count : ℕ) (cut : Bool) : Type 0 where
+pub record Final (t : Table) (old new : List ℕ) (count : ℕ) (cut : Bool) : Type 0 where
   pub listed : Listed t (masksIn new count)
   pub mark : markOf t (masksIn new count) ≡ not cut
-  pub room : length (masksIn new count) ≤ places
-  pub full : markOf t (masksIn new count) ≡ false → length (masksIn new count) ≡ places
+  pub full : markOf t (masksIn new count) ≡ false → length old < 6 * length (masksIn new count) + 9
   pub listing : Listing old (masksIn new count) new
 
-module _ {t : Table} (h : Sound t) (places : ℕ) (old new : List ℕ) (r : Ran) where
-  finals : (found : Bool) → RunsAs found t places old new r → Final t places old new (r .count) (r .cut)
+module _ {t : Table} (h : Sound t) (old new : List ℕ) (r : Ran) where
+  finals : (found : Bool) → RunsAs found t old new r → Final t old new (r .listed .count) (r .listed .cut)
   finals true (w, s) = record {
     listed = settled-listed h forth ahead s;
     mark = settled-mark h forth ahead s;
-    room = settled-room h forth ahead s;
     full = settled-full h forth ahead s;
-    listing = listing-grown (s .ledger) (s .grows);
+    listing = listing-grown (s .list);
   }
     where
       l : (q : List ℕ) × PlacementOf t q × (placed q ≡ standing (r .on))
@@ -76,22 +75,21 @@ module _ {t : Table} (h : Sound t) (places : ℕ) (old new : List ℕ) (r : Ran)
   finals false s = record {
     listed = settled-listed h forth (λ e v b. tt) s;
     mark = settled-mark h forth (λ e v b. tt) s;
-    room = settled-room h forth (λ e v b. tt) s;
     full = settled-full h forth (λ e v b. tt) s;
-    listing = listing-grown (s .ledger) (s .grows);
+    listing = listing-grown (s .list);
   }
     where
       forth : (e : List ℕ) → PlacementOf t e → Unit {0} → Before t e
       forth e v x = none-before h (λ q i g. let l = s .refuted q i tt (g .keeps) in g .in-time (l .0) (l .1)) v
 
-  heads : (found : Bool) → RunsAs found t places old new r → HeadBy found t (r .on)
+  heads : (found : Bool) → RunsAs found t old new r → HeadBy found t (r .on)
   heads true (w, s) = (w .whole, found-headed h w s)
   heads false s = none-head h (λ q i g. let l = s .refuted q i tt (g .keeps) in g .in-time (l .0) (l .1))
 
-  pub ran-final : RanAs t places old new r → Final t places old new (r .count) (r .cut)
+  pub ran-final : RanAs t old new r → Final t old new (r .listed .count) (r .listed .cut)
   ran-final = finals (r .found)
 
-  pub ran-head : RanAs t places old new r → HeadBy (r .found) t (r .on)
+  pub ran-head : RanAs t old new r → HeadBy (r .found) t (r .on)
   ran-head = heads (r .found)
 
 pub head-known : (t : Table) (sets : List ℕ) {b c : Bool} → b ≡ c → HeadBy b t sets → HeadBy c t sets
@@ -121,13 +119,13 @@ names-list {t} h {sets} {q} w m = record {
         let l = w .partial .task k p u in
         subst (λ (r : ℕ). T (placed (take (t .tasks .count) q) k r)) (at k l ∙ w .partial .once k (getD q k 0) p (m .there k l) u) (placed-at (take (t .tasks .count) q) k (omega (arith, l, long)))
 
--- with the places that were worked out
-pub final-at : (t : Table) (old list new : List ℕ) (count : ℕ) {cut : Bool} {p : ℕ} → p ≡ places (t .tasks .count) (length old) → Final t p list new count cut → Final t (places (t .tasks .count) (length old)) list new count cut
-final-at t old list new count {cut} e = subst (λ (x : ℕ). Final t x list new count cut) e
+-- 01's places of a buffer: in its part after the head there is room for so many conflicts, and where one more has none, they are as many
+places-room : (n len part count : ℕ) → part + (n + 2) ≡ len → 6 * count + 3 ≤ part → (count ≤ places n len) × (part < 6 * count + 9 → count ≡ places n len)
+places-room n len part count e l = (omega arith, λ f. omega arith)
 
 -- the buffer: the list and then the end go into its part after the head, and then the head
 module _ (t : Table) (old list end : List ℕ) (count : ℕ) (cut : Bool) (long : t .tasks .count + 5 ≤ length old)
-    (f : Final t (places (t .tasks .count) (length old)) (midOf (t .tasks .count + 2) (length old - (t .tasks .count + 2)) old) list count cut) where
+    (f : Final t (midOf (t .tasks .count + 2) (length old - (t .tasks .count + 2)) old) list count cut) where
   -- with the list in it
   abbrev pub filled : List ℕ
   filled = putMid (t .tasks .count + 2) (length old - (t .tasks .count + 2)) old list
@@ -148,13 +146,21 @@ module _ (t : Table) (old list end : List ℕ) (count : ℕ) (cut : Bool) (long 
   room : t .tasks .count + 2 ≤ length filled
   room = omega (arith, ap length fills, length-append (take (t .tasks .count + 2) old) list, front)
 
+  -- the part after the head
+  part-long : length (midOf (t .tasks .count + 2) (length old - (t .tasks .count + 2)) old) + (t .tasks .count + 2) ≡ length old
+  part-long = omega (arith, ap length (lent (t .tasks .count + 2) old), length-drop (t .tasks .count + 2) old, long)
+
+  in-places : (length (masksIn list count) ≤ places (t .tasks .count) (length old))
+      × (length (midOf (t .tasks .count + 2) (length old - (t .tasks .count + 2)) old) < 6 * length (masksIn list count) + 9 → length (masksIn list count) ≡ places (t .tasks .count) (length old))
+  in-places = places-room (t .tasks .count) (length old) _ (length (masksIn list count)) part-long (f .listing .room)
+
   pub written : (final : List ℕ) → end ≡ laid (6 * count) (endBytes (not cut)) (midOf (t .tasks .count + 2) (length filled - (t .tasks .count + 2)) filled)
       → final ≡ headOf t ++ drop (t .tasks .count + 2) closed → Lists t old final (Written (t .tasks .count + 5 + 6 * count))
   written final a b = record {
     conflicts = masksIn list count;
     listed = f .listed;
-    room = f .room;
-    full = f .full;
+    room = in-places .0;
+    full = λ e. in-places .1 (f .full e);
     buffer = rw (f .mark) (b ∙ ap (λ (x : List ℕ). headOf t ++ drop (t .tasks .count + 2) x) (back (t .tasks .count + 2) filled end)
         ∙ whole-last (t .tasks .count) (headOf t) old (not cut) (sym (masks-long list count)) (a ∙ ap (laid (6 * count) (endBytes (not cut))) part) filled room
         (subst (λ (x : List ℕ). Listing x (masksIn list count) list) (lent (t .tasks .count + 2) old) (f .listing)));
@@ -172,4 +178,4 @@ module _ (t : Table) (old list end : List ℕ) (count : ℕ) (cut : Bool) (long 
   head-room = omega (arith, ap length (back (t .tasks .count + 2) filled end), length-append (take (t .tasks .count + 2) filled) end, length-take-le (t .tasks .count + 2) filled room)
 
   pub count-room : t .tasks .count + 5 + 6 * count ≤ length old
-  count-room = omega (arith, listed-room, ap length (lent (t .tasks .count + 2) old), length-drop (t .tasks .count + 2) old, long)
+  count-room = omega (arith, listed-room, part-long)

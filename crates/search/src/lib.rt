@@ -42,13 +42,12 @@ fn search_table(table: Table, buffer: &mut [u8]) -> Answer
     if buffer.len() < n + 5 {
         return Answer::Refused(Cause::ShortAnswer, 0);
     }
-    let places = answer::places(buffer.len(), n);
-    let ran = run::run_table(table, &mut buffer[n + 2..], places);
-    let cut = ran.cut;
-    answer::put_end(&mut buffer[n + 2..], ran.count, !cut);
+    let ran = run::run_table(table, &mut buffer[n + 2..]);
+    let listed = ran.listed;
+    answer::put_end(&mut buffer[n + 2..], listed.count, !listed.cut);
     let on = ran.on;
     put_head(table, ran.found, on, buffer);
-    Answer::Written(n + 5 + 6 * ran.count)
+    Answer::Written(n + 5 + 6 * listed.count)
 }
 
 // The first placement of a file's tasks, the conflicts before it and the mark, into the answer buffer.

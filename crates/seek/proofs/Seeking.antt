@@ -14,8 +14,9 @@ use Rattle.table.specs.declared.Table.{Table}
 use Rattle.rules.specs.Placement.{andTask}
 use Rattle.rules.specs.Sets.{standing}
 use Rattle.timing.specs.Timing.{tasksIn}
-use Rattle.ledger.specs.Ledger.{Ledger, Grows, Bad}
-use Rattle.ledger.proofs.Growth.{grows-refl, grows-trans, grows-map}
+use Rattle.ledger.specs.declared.Mode.{Mode}
+use Rattle.ledger.specs.Ledger.{Extended, Bad}
+use Rattle.ledger.proofs.Growth.{extended-refl, extended-trans, extended-map}
 use Rattle.ledger.proofs.Verdicts.{bad-grows, clear-grows}
 use Rattle.partial.specs.declared.State.{State}
 use Rattle.partial.specs.Partial.{Fits}
@@ -31,69 +32,66 @@ use Rattle.seek.specs.declared.Sought.{Sought}
 use Rattle.entering.specs.Entering.{EntersAs, EnteredAs}
 use Rattle.seek.specs.Seek.{SoughtIn, Passed, ExploredAs}
 
-module _ {t : Table} {listing limited : Bool} {places : ℕ} {s : State} {list : List ℕ} {count : ℕ} (b : Begins t listing places s list count) where
+module _ {t : Table} {mode : Mode} {s : State} {list : List ℕ} {count : ℕ} (b : Begins t mode s list count) where
   -- the search gives up
-  pub sought-neither : limited ≡ true → SoughtIn t listing limited places (standing (s .on)) list count list (record { found = false; none = false; on = s .on; count = count })
+  pub sought-neither : mode .limited ≡ true → SoughtIn t mode (standing (s .on)) list count list (record { found = false; none = false; on = s .on; count = count })
   sought-neither e = record {
-    ledger = b .ledger;
-    grows = grows-refl;
+    list = extended-refl (b .ledger);
     placement = λ f. absurd (false≢true f);
     nothing = λ f. absurd (false≢true f);
     certain = λ l f. absurd (false≢true (sym l ∙ e));
   }
 
   -- no task is open
-  pub sought-end : s .left ≡ 0 → SoughtIn t listing limited places (standing (s .on)) list count list (record { found = true; none = false; on = s .on; count = count })
+  pub sought-end : s .left ≡ 0 → SoughtIn t mode (standing (s .on)) list count list (record { found = true; none = false; on = s .on; count = count })
   sought-end e = record {
-    ledger = b .ledger;
-    grows = grows-refl;
+    list = extended-refl (b .ledger);
     placement = λ f. witness-end (b .fits) e (b .clear);
     nothing = λ f. absurd (false≢true f);
     certain = λ l f. absurd (false≢true (sym f));
   }
 
 -- what a bound leaves
-module _ {t : Table} {listing : Bool} {places : ℕ} {s : State} {old mid : List ℕ} {before : ℕ} (r : Bounded) (w : BoundedAs t listing places s old before mid r) where
-  pub bounded-begins : Begins t listing places s old before → Begins t listing places s mid (r .count)
-  bounded-begins b = record { fits = b .fits; ledger = w .ledger; clear = λ q. clear-grows listing (has (getD (s .on) q 0)) (w .ledger) (w .grows) (b .clear q) }
+module _ {t : Table} {mode : Mode} {s : State} {old mid : List ℕ} {before : ℕ} (r : Bounded) (w : BoundedAs t mode s old before mid r) where
+  pub bounded-begins : Begins t mode s old before → Begins t mode s mid (r .count)
+  bounded-begins b = record { fits = b .fits; ledger = w .list .ledger; clear = λ q. clear-grows (mode .listing) (has (getD (s .on) q 0)) (w .list) (b .clear q) }
 
-  pub bounded-hopeless : {limited : Bool} → r .hopeless ≡ true → (sets : List ℕ) → SoughtIn t listing limited places (standing (s .on)) old before mid (record { found = false; none = true; on = sets; count = r .count })
-  bounded-hopeless e sets = record { ledger = w .ledger; grows = w .grows; placement = λ f. absurd (false≢true f); nothing = λ f. w .answer e; certain = λ l f. refl }
+  pub bounded-hopeless : r .hopeless ≡ true → (sets : List ℕ) → SoughtIn t mode (standing (s .on)) old before mid (record { found = false; none = true; on = sets; count = r .count })
+  bounded-hopeless e sets = record { list = w .list; placement = λ f. absurd (false≢true f); nothing = λ f. w .answer e; certain = λ l f. refl }
 
-  pub bounded-then : {limited : Bool} {new : List ℕ} (x : Sought) → SoughtIn t listing limited places (standing (s .on)) mid (r .count) new x → SoughtIn t listing limited places (standing (s .on)) old before new x
-  bounded-then x y = record { ledger = y .ledger; grows = grows-trans (w .grows) (y .grows); placement = y .placement; nothing = y .nothing; certain = y .certain }
+  pub bounded-then : {new : List ℕ} (x : Sought) → SoughtIn t mode (standing (s .on)) mid (r .count) new x → SoughtIn t mode (standing (s .on)) old before new x
+  bounded-then x y = record { list = extended-trans (w .list) (y .list); placement = y .placement; nothing = y .nothing; certain = y .certain }
 
 -- a lower processor can stand in for p
-pub explored-twin : {t : Table} {listing limited : Bool} {places : ℕ} {s : State} (k : ℕ) {p q : ℕ} {list : List ℕ} {count : ℕ} → Begins t listing places s list count → LowestTwin t s p q → (q ≡ p → ⊥) → (sets : List ℕ)
-    → ExploredAs t listing limited places s k p list count list (record { found = false; none = true; on = sets; count = count })
+pub explored-twin : {t : Table} {mode : Mode} {s : State} (k : ℕ) {p q : ℕ} {list : List ℕ} {count : ℕ} → Begins t mode s list count → LowestTwin t s p q → (q ≡ p → ⊥) → (sets : List ℕ)
+    → ExploredAs t mode s k p list count list (record { found = false; none = true; on = sets; count = count })
 explored-twin k {p} {q} b w f sets =
     let l : q < p = omega (arith, w .upto, f) in
-    record { ledger = b .ledger; grows = grows-refl; placement = λ e. absurd (false≢true e); nothing = λ e. inr (q, l, w .twin l); certain = λ y e. refl }
+    record { list = extended-refl (b .ledger); placement = λ e. absurd (false≢true e); nothing = λ e. inr (q, l, w .twin l); certain = λ y e. refl }
 
 -- the region below task k on processor p
-module _ {t : Table} {listing : Bool} {places : ℕ} {s : State} {k p : ℕ} {old mid : List ℕ} {before : ℕ} (e : Entered) (w : EnteredAs t listing places s k p old before mid e) where
-  pub explored-closed : {limited : Bool} → e .passes ≡ false → (sets : List ℕ) → ExploredAs t listing limited places s k p old before mid (record { found = false; none = true; on = sets; count = e .count })
+module _ {t : Table} {mode : Mode} {s : State} {k p : ℕ} {old mid : List ℕ} {before : ℕ} (e : Entered) (w : EnteredAs t mode s k p old before mid e) where
+  pub explored-closed : e .passes ≡ false → (sets : List ℕ) → ExploredAs t mode s k p old before mid (record { found = false; none = true; on = sets; count = e .count })
   explored-closed f sets = record {
-    ledger = w .ledger;
-    grows = w .grows;
+    list = w .list;
     placement = λ g. absurd (false≢true g);
-    nothing = λ g. inl (subst (λ (b : Bool). EntersAs b t listing places s k p mid (e .count) (e .next)) f (w .answer));
+    nothing = λ g. inl (subst (λ (b : Bool). EntersAs b t mode s k p mid (e .count) (e .next)) f (w .answer));
     certain = λ l g. refl;
   }
 
-  pub explored-begins : e .passes ≡ true → Begins t listing places (e .next) mid (e .count)
-  explored-begins f = subst (λ (b : Bool). EntersAs b t listing places s k p mid (e .count) (e .next)) f (w .answer) .1
+  pub explored-begins : e .passes ≡ true → Begins t mode (e .next) mid (e .count)
+  explored-begins f = subst (λ (b : Bool). EntersAs b t mode s k p mid (e .count) (e .next)) f (w .answer) .1
 
   pub explored-falls : e .passes ≡ true → T (has (s .left) k) → e .next .left < s .left
   explored-falls f u =
-      let step = subst (λ (b : Bool). EntersAs b t listing places s k p mid (e .count) (e .next)) f (w .answer) .0 in
+      let step = subst (λ (b : Bool). EntersAs b t mode s k p mid (e .count) (e .next)) f (w .answer) .0 in
       rw (step .left) (remove-lt (s .left) k u)
 
-  pub explored-open : {limited : Bool} → e .passes ≡ true → {new : List ℕ} (r : Sought) → SoughtIn t listing limited places (standing (e .next .on)) mid (e .count) new r → ExploredAs t listing limited places s k p old before new r
-  explored-open {limited} f {new} r x =
-      let step = subst (λ (b : Bool). EntersAs b t listing places s k p mid (e .count) (e .next)) f (w .answer) .0 in
-      let y = subst (λ (on : ℕ → ℕ → Bool). SoughtIn t listing limited places on mid (e .count) new r) (step .on) x in
-      record { ledger = y .ledger; grows = grows-trans (w .grows) (y .grows); placement = y .placement; nothing = λ g. inl (y .nothing g); certain = y .certain }
+  pub explored-open : e .passes ≡ true → {new : List ℕ} (r : Sought) → SoughtIn t mode (standing (e .next .on)) mid (e .count) new r → ExploredAs t mode s k p old before new r
+  explored-open f {new} r x =
+      let step = subst (λ (b : Bool). EntersAs b t mode s k p mid (e .count) (e .next)) f (w .answer) .0 in
+      let y = subst (λ (on : ℕ → ℕ → Bool). SoughtIn t mode on mid (e .count) new r) (step .on) x in
+      record { list = extended-trans (w .list) (y .list); placement = y .placement; nothing = λ g. inl (y .nothing g); certain = y .certain }
 
 -- processor q is one of the i from the first on, around all m
 abbrev pub Behind : ℕ → ℕ → ℕ → ℕ → Type 0
@@ -111,63 +109,60 @@ behind-all first m i q l n (yes u) = inl (u, omega arith)
 behind-all first m i q l n (no u) = inr (omega arith)
 
 -- the loop over the processors: those behind are passed over, by the list as it is now
-pub record Seeking (t : Table) (listing : Bool) (places : ℕ) (s : State) (k : ℕ) (old : List ℕ) (before first m i : ℕ) (list : List ℕ) (at : ℕ) : Type 0 where
-  pub ledger : Ledger (tasksIn t) places list at
-  pub grows : Grows (Met t (Within (standing (s .on)))) old before list at
-  pub passed : (q : ℕ) → q < m → Behind first m i q → Passed t listing s k q list at
+pub record Seeking (t : Table) (mode : Mode) (s : State) (k : ℕ) (old : List ℕ) (before first m i : ℕ) (new : List ℕ) (at : ℕ) : Type 0 where
+  pub list : Extended (Met t (Within (standing (s .on)))) (tasksIn t) old before new at
+  pub passed : (q : ℕ) → q < m → Behind first m i q → Passed t mode s k q new at
 
-pub seeking-start : {t : Table} {listing : Bool} {places : ℕ} {s : State} {list : List ℕ} {count : ℕ} → Begins t listing places s list count → (k first m : ℕ) → first < m → Seeking t listing places s k list count first m 0 list count
-seeking-start b k first m n = record { ledger = b .ledger; grows = grows-refl; passed = λ q l u. absurd (⊎-elim (λ v. omega (arith, v .0, v .1)) (λ v. omega (arith, v, n)) u) }
+pub seeking-start : {t : Table} {mode : Mode} {s : State} {list : List ℕ} {count : ℕ} → Begins t mode s list count → (k first m : ℕ) → first < m → Seeking t mode s k list count first m 0 list count
+seeking-start b k first m n = record { list = extended-refl (b .ledger); passed = λ q l u. absurd (⊎-elim (λ v. omega (arith, v .0, v .1)) (λ v. omega (arith, v, n)) u) }
 
-module _ {t : Table} {listing : Bool} {places : ℕ} {s : State} {k : ℕ} {old : List ℕ} {before first m i : ℕ} {list : List ℕ} {at : ℕ} (w : Seeking t listing places s k old before first m i list at) where
-  pub seeking-begins : Begins t listing places s old before → Begins t listing places s list at
-  seeking-begins b = record { fits = b .fits; ledger = w .ledger; clear = λ q. clear-grows listing (has (getD (s .on) q 0)) (w .ledger) (w .grows) (b .clear q) }
+module _ {t : Table} {mode : Mode} {s : State} {k : ℕ} {old : List ℕ} {before first m i : ℕ} {list : List ℕ} {at : ℕ} (w : Seeking t mode s k old before first m i list at) where
+  pub seeking-begins : Begins t mode s old before → Begins t mode s list at
+  seeking-begins b = record { fits = b .fits; ledger = w .list .ledger; clear = λ q. clear-grows (mode .listing) (has (getD (s .on) q 0)) (w .list) (b .clear q) }
 
   -- what processor p gives
-  module _ {limited : Bool} {p : ℕ} {new : List ℕ} (r : Sought) (x : ExploredAs t listing limited places s k p list at new r) where
-    grown : Grows (Met t (Within (standing (s .on)))) old before new (r .count)
-    grown = grows-trans (w .grows) (grows-map (λ c. met-map (λ q i u. λ j y v. u j y (and-part (standing (s .on)) k p j y v))) (x .grows))
+  module _ {p : ℕ} {new : List ℕ} (r : Sought) (x : ExploredAs t mode s k p list at new r) where
+    grown : Extended (Met t (Within (standing (s .on)))) (tasksIn t) old before new (r .count)
+    grown = extended-trans (w .list) (extended-map (λ c. met-map (λ q i u. λ j y v. u j y (and-part (standing (s .on)) k p j y v))) (x .list))
 
-    pub seeking-stop : r .none ≡ false → SoughtIn t listing limited places (standing (s .on)) old before new r
+    pub seeking-stop : r .none ≡ false → SoughtIn t mode (standing (s .on)) old before new r
     seeking-stop e = record {
-      ledger = x .ledger;
-      grows = grown;
+      list = grown;
       placement = λ f. witness-map (and-part (standing (s .on)) k p) (λ y c. c) (x .placement f);
       nothing = λ f. absurd (false≢true (sym e ∙ f));
       certain = x .certain;
     }
 
     -- what was passed over by the list before is so by the list now
-    passed-still : (q : ℕ) → Passed t listing s k q list at → Passed t listing s k q new (r .count)
+    passed-still : (q : ℕ) → Passed t mode s k q list at → Passed t mode s k q new (r .count)
     passed-still q =
         ⊎-elim
         (λ u. inl
-        (refuted-map t (Bad (tasksIn t) listing list at) (Bad (tasksIn t) listing new (r .count)) (Within (andTask (standing (s .on)) k q)) (Within (andTask (standing (s .on)) k q))
-        (λ y. bad-grows (tasksIn t) listing y (x .grows)) (λ z i v. v) u))
+        (refuted-map t (Bad (tasksIn t) (mode .listing) list at) (Bad (tasksIn t) (mode .listing) new (r .count)) (Within (andTask (standing (s .on)) k q)) (Within (andTask (standing (s .on)) k q))
+        (λ y. bad-grows (tasksIn t) (mode .listing) y (x .list .grows)) (λ z i v. v) u))
         (λ u. inr u)
 
-    pub seeking-next : p < m → (p ≡ first + i) ⊎ (p + m ≡ first + i) → r .none ≡ true → Seeking t listing places s k old before first m (i + 1) new (r .count)
-    seeking-next l a e = record { ledger = x .ledger; grows = grown; passed = λ q n u. go q n u (ℕ-discrete q p) }
+    pub seeking-next : p < m → (p ≡ first + i) ⊎ (p + m ≡ first + i) → r .none ≡ true → Seeking t mode s k old before first m (i + 1) new (r .count)
+    seeking-next l a e = record { list = grown; passed = λ q n u. go q n u (ℕ-discrete q p) }
       where
-        go : (q : ℕ) → q < m → Behind first m (i + 1) q → Dec (q ≡ p) → Passed t listing s k q new (r .count)
-        go q n u (yes f) = subst (λ (y : ℕ). Passed t listing s k y new (r .count)) (sym f) (x .nothing e)
+        go : (q : ℕ) → q < m → Behind first m (i + 1) q → Dec (q ≡ p) → Passed t mode s k q new (r .count)
+        go q n u (yes f) = subst (λ (y : ℕ). Passed t mode s k y new (r .count)) (sym f) (x .nothing e)
         go q n u (no f) = passed-still q (w .passed q n (behind-next first m i p q l a n f u))
 
   -- every processor is passed over: so no placement may stand on the lowest, and on each that a lower one can stand in for
   module _ (fits : Fits t s) (n : m ≤ i) where
-    refuted : (b q : ℕ) → q < b → q < m → Refuted t (Bad (tasksIn t) listing list at) (Within (andTask (standing (s .on)) k q))
+    refuted : (b q : ℕ) → q < b → q < m → Refuted t (Bad (tasksIn t) (mode .listing) list at) (Within (andTask (standing (s .on)) k q))
     refuted zero q l u = absurd (omega arith)
     refuted (suc b) q l u =
         ⊎-elim
         (λ v. v)
-        (λ v. swap-refuted fits (v .2) (Bad (tasksIn t) listing list at) k (refuted b (v .0) (omega (arith, v .1, l)) (omega (arith, v .1, u))))
+        (λ v. swap-refuted fits (v .2) (Bad (tasksIn t) (mode .listing) list at) k (refuted b (v .0) (omega (arith, v .1, l)) (omega (arith, v .1, u))))
         (w .passed q u (behind-all first m i q u n (decLe first q)))
 
-    pub seeking-end : {limited : Bool} → k < t .tasks .count → m ≡ t .processors .count → (sets : List ℕ) → SoughtIn t listing limited places (standing (s .on)) old before list (record { found = false; none = true; on = sets; count = at })
+    pub seeking-end : k < t .tasks .count → m ≡ t .processors .count → (sets : List ℕ) → SoughtIn t mode (standing (s .on)) old before list (record { found = false; none = true; on = sets; count = at })
     seeking-end l e sets = record {
-      ledger = w .ledger;
-      grows = w .grows;
+      list = w .list;
       placement = λ f. absurd (false≢true f);
-      nothing = λ f. branch t (Bad (tasksIn t) listing list at) (standing (s .on)) l (λ q u. refuted (q + 1) q (omega arith) (omega arith));
+      nothing = λ f. branch t (Bad (tasksIn t) (mode .listing) list at) (standing (s .on)) l (λ q u. refuted (q + 1) q (omega arith) (omega arith));
       certain = λ y f. refl;
     }

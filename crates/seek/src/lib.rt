@@ -5,10 +5,9 @@ ghost use mathlib.Core.Logic.{_⊎_};
 ghost use Prim.Native.Nat.{_+_, _≤_, _<_};
 ghost use lib.Dec.{T};
 ghost use Rattle.mask.specs.Mask.{has};
-ghost use Rattle.table.specs.declared.Table.{Table};
 ghost use Rattle.rules.specs.Sets.{standing};
-ghost use Rattle.region.specs.Lends.{Lends};
 ghost use Rattle.region.specs.Begins.{Begins};
+ghost use Rattle.region.specs.Given.{Given, Gives};
 ghost use Rattle.memo.specs.Memo.{Learnt};
 ghost use Rattle.seek.specs.Seek.{ExploredAs, SoughtIn};
 use columns::Columns;
@@ -16,6 +15,7 @@ use columns::Messages;
 use known::Known;
 use ledger::Mode;
 use memo::Memo;
+use notes::FUEL;
 use notes::Notes;
 use partial::Sizes;
 use partial::State;
@@ -37,11 +37,11 @@ fn gives_up(limited: bool, notes: &mut Notes) -> bool
     if !limited {
         return false;
     }
-    let fuel = notes[27];
+    let fuel = notes[FUEL];
     if fuel == 0 {
         return true;
     }
-    notes[27] = fuel - 1;
+    notes[FUEL] = fuel - 1;
     false
 }
 
@@ -81,9 +81,11 @@ fn explore<'a>(
     known: &mut Known,
     memo: &mut Memo,
 ) -> Sought
-    requires { ⌜ ((t : Table) × Lends t sizes (now timing) (now columns) (now messages) × Begins t (mode .listing) (mode .places) s (now list) count × Learnt t (now columns) (now known) (now memo)) × T (has (s .left) k) × (p < sizes .processors) ⌝ }
-    ensures { λ r. ⌜ ((t : Table) → Lends t sizes (now (timing .entry)) (now (columns .entry)) (now (messages .entry))
-        → Begins t (mode .listing) (mode .places) s (now (list .entry)) count → Learnt t (now (columns .entry)) (now (known .entry)) (now (memo .entry)) → ExploredAs t (mode .listing) (mode .limited) (mode .places) s k p (now (list .entry)) count (now (list .exit)) r × Learnt t (now (columns .entry)) (now (known .exit)) (now (memo .exit))) ⌝ }
+    requires { ⌜ Given sizes (now timing) (now columns) (now messages) (λ t. Begins t mode s (now list) count) (λ t. Learnt t (now columns) (now known) (now memo))
+        × T (has (s .left) k) × (p < sizes .processors) ⌝ }
+    ensures { λ r. ⌜ Gives sizes (now (timing .entry)) (now (columns .entry)) (now (messages .entry))
+        (λ t. Begins t mode s (now (list .entry)) count) (λ t. Learnt t (now (columns .entry)) (now (known .entry)) (now (memo .entry)))
+        (λ t. ExploredAs t mode s k p (now (list .entry)) count (now (list .exit)) r × Learnt t (now (columns .entry)) (now (known .exit)) (now (memo .exit))) ⌝ }
 {
     let on = s.on;
     if twin::twin(columns, s, p) != p {
@@ -145,9 +147,11 @@ fn branch<'a>(
     known: &mut Known,
     memo: &mut Memo,
 ) -> Sought
-    requires { ⌜ ((t : Table) × Lends t sizes (now timing) (now columns) (now messages) × Begins t (mode .listing) (mode .places) s (now list) count × Learnt t (now columns) (now known) (now memo)) × (0 < s .left) ⌝ }
-    ensures { λ r. ⌜ ((t : Table) → Lends t sizes (now (timing .entry)) (now (columns .entry)) (now (messages .entry))
-        → Begins t (mode .listing) (mode .places) s (now (list .entry)) count → Learnt t (now (columns .entry)) (now (known .entry)) (now (memo .entry)) → SoughtIn t (mode .listing) (mode .limited) (mode .places) (standing (s .on)) (now (list .entry)) count (now (list .exit)) r × Learnt t (now (columns .entry)) (now (known .exit)) (now (memo .exit))) ⌝ }
+    requires { ⌜ Given sizes (now timing) (now columns) (now messages) (λ t. Begins t mode s (now list) count) (λ t. Learnt t (now columns) (now known) (now memo))
+        × (0 < s .left) ⌝ }
+    ensures { λ r. ⌜ Gives sizes (now (timing .entry)) (now (columns .entry)) (now (messages .entry))
+        (λ t. Begins t mode s (now (list .entry)) count) (λ t. Learnt t (now (columns .entry)) (now (known .entry)) (now (memo .entry)))
+        (λ t. SoughtIn t mode (standing (s .on)) (now (list .entry)) count (now (list .exit)) r × Learnt t (now (columns .entry)) (now (known .exit)) (now (memo .exit))) ⌝ }
 {
     let on = s.on;
     let k = branching::pick(
@@ -211,9 +215,10 @@ pub fn seek<'a>(
     known: &mut Known,
     memo: &mut Memo,
 ) -> Sought
-    requires { ⌜ ((t : Table) × Lends t sizes (now timing) (now columns) (now messages) × Begins t (mode .listing) (mode .places) s (now list) count × Learnt t (now columns) (now known) (now memo)) ⌝ }
-    ensures { λ r. ⌜ ((t : Table) → Lends t sizes (now (timing .entry)) (now (columns .entry)) (now (messages .entry))
-        → Begins t (mode .listing) (mode .places) s (now (list .entry)) count → Learnt t (now (columns .entry)) (now (known .entry)) (now (memo .entry)) → SoughtIn t (mode .listing) (mode .limited) (mode .places) (standing (s .on)) (now (list .entry)) count (now (list .exit)) r × Learnt t (now (columns .entry)) (now (known .exit)) (now (memo .exit))) ⌝ }
+    requires { ⌜ Given sizes (now timing) (now columns) (now messages) (λ t. Begins t mode s (now list) count) (λ t. Learnt t (now columns) (now known) (now memo)) ⌝ }
+    ensures { λ r. ⌜ Gives sizes (now (timing .entry)) (now (columns .entry)) (now (messages .entry))
+        (λ t. Begins t mode s (now (list .entry)) count) (λ t. Learnt t (now (columns .entry)) (now (known .entry)) (now (memo .entry)))
+        (λ t. SoughtIn t mode (standing (s .on)) (now (list .entry)) count (now (list .exit)) r × Learnt t (now (columns .entry)) (now (known .exit)) (now (memo .exit))) ⌝ }
 {
     let on = s.on;
     if gives_up(mode.limited, notes) {

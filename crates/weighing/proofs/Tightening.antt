@@ -21,8 +21,9 @@ use Rattle.rules.specs.Sets.{standing}
 use Rattle.timing.specs.Timing.{tasksIn}
 use Rattle.columns.specs.Columns.{loadsOf, exclusionsOf, memoryRow, loadRow, exclusionRow, weightsIn}
 use Rattle.columns.proofs.Laws.{loads-bound}
-use Rattle.ledger.specs.Ledger.{Ledger, Grows, Bad}
-use Rattle.ledger.proofs.Growth.{grows-refl, grows-trans, grows-map}
+use Rattle.ledger.specs.declared.Mode.{Mode}
+use Rattle.ledger.specs.Ledger.{Ledger, Extended, Bad}
+use Rattle.ledger.proofs.Growth.{extended-refl, extended-trans, extended-map}
 use Rattle.ledger.proofs.Verdicts.{bad-grows}
 use Rattle.partial.specs.declared.State.{State}
 use Rattle.partial.specs.declared.Sizes.{Sizes}
@@ -30,7 +31,7 @@ use Rattle.partial.specs.Partial.{Lent, Fits}
 use Rattle.region.specs.Region.{Within, Met}
 use Rattle.region.specs.Lends.{Lends}
 use Rattle.region.proofs.Lending.{lent-tasks}
-use Rattle.offer.specs.Offer.{Fair, Eligible, Choices}
+use Rattle.offer.specs.Offer.{Fair, Eligible}
 use Rattle.offer.proofs.Meeting.{met-among}
 use Rattle.offer.proofs.Choosing.{choice-map, eligible-below}
 use Rattle.offer.proofs.Fairness.{refuted-fair}
@@ -40,7 +41,7 @@ use Rattle.packing.specs.Packing.{weightOf, Takes, PackedAs}
 use Rattle.packing.proofs.Taking.{takes-map}
 use Rattle.memo.specs.Memo.{Capped}
 use Rattle.weighing.specs.Bound.{BoundedAs}
-use Rattle.weighing.specs.Weighing.{Light, TopAs, Covers, Joins, Bounds, Tops, Topped, TightAs}
+use Rattle.weighing.specs.Weighing.{Light, heaviest, TopAs, Covers, Joins, Bounds, Tops, Weighable, Topped, TightAs}
 use Rattle.weighing.proofs.OpenTasks.{openOn, fair-joins, open-sum}
 
 -- fewer kinds of sets
@@ -61,7 +62,7 @@ joins-cover c j = record { inside = λ k u. rw (← c .same-set) (j .inside k u)
 
 -- the first bounds
 pub tops-start : {t : Table} {s : State} {B : (ℕ → Bool) → Type 0} {sizes : Sizes} {columns links : List (List ℕ)} {sets tops : List ℕ} {row : ℕ} → Lent t sizes columns links → Fits t s
-    → ((p : ℕ) → p < t .processors .count → Eligible t s p (getD sets p 0)) → ((p : ℕ) → getD tops p 0 ≤ 103079215080)
+    → ((p : ℕ) → p < t .processors .count → Eligible t s p (getD sets p 0)) → ((p : ℕ) → getD tops p 0 ≤ heaviest)
     → ((p : ℕ) → p < sizes .processors → TopAs (weightsIn columns row) (getD sets p 0) row (getD (s .memory) p 0) (getD (s .load) p 0) (getD tops p 0)) → Tops t s B (weightsIn columns row) sets tops
 tops-start {t} l f el small tops = record {
   small = small;
@@ -83,24 +84,22 @@ packOf s sets tops p reach = record {
   best = 0;
 }
 
-module _ {t : Table} {s : State} {listing : Bool} {places : ℕ} {weights sets tops list : List ℕ} {count : ℕ} (o : Tops t s (Bad (tasksIn t) listing list count) weights sets tops) {p : ℕ} (low : p < t .processors .count) where
+module _ {t : Table} {s : State} {mode : Mode} {weights sets tops list : List ℕ} {count : ℕ} (o : Tops t s (Bad (tasksIn t) (mode .listing) list count) weights sets tops) {p : ℕ} (low : p < t .processors .count) where
   -- the bound of a processor that covers p
-  pub tight-like : {r most : ℕ} → Ledger (tasksIn t) places list count → r < t .processors .count → Covers s sets r p
-      → (most ≤ getD tops p 0) × (most ≤ getD tops r 0) × ((most ≡ getD tops p 0) ⊎ (most ≡ getD tops r 0)) → TightAs t listing places s weights sets tops p list count list (record { most = most; count = count })
+  pub tight-like : {r most : ℕ} → Ledger (tasksIn t) list count → r < t .processors .count → Covers s sets r p
+      → (most ≤ getD tops p 0) × (most ≤ getD tops r 0) × ((most ≡ getD tops p 0) ⊎ (most ≡ getD tops r 0)) → TightAs t mode s weights sets tops p list count list (record { most = most; count = count })
   tight-like w i c m = record {
-    ledger = w;
-    grows = grows-refl;
+    list = extended-refl w;
     no-more = m .0;
     bounds = λ x j. ⊎-elim (λ e. rw e (o .bounds p low x j)) (λ e. rw e (o .bounds _ i x (joins-cover c j))) (m .2);
   }
 
   -- or one that is kept, of late sets
-  pub tight-recalled : {columns : List (List ℕ)} {row top most : ℕ} → listing ≡ false → weights ≡ weightsIn columns row → Ledger (tasksIn t) places list count
+  pub tight-recalled : {columns : List (List ℕ)} {row top most : ℕ} → mode .listing ≡ false → weights ≡ weightsIn columns row → Ledger (tasksIn t) list count
       → Capped t columns (getD (s .on) p 0) (getD sets p 0) row (getD (s .memory) p 0) (getD (s .load) p 0) top
-      → (most ≤ getD tops p 0) × (most ≤ top) × ((most ≡ getD tops p 0) ⊎ (most ≡ top)) → TightAs t listing places s weights sets tops p list count list (record { most = most; count = count })
+      → (most ≤ getD tops p 0) × (most ≤ top) × ((most ≡ getD tops p 0) ⊎ (most ≡ top)) → TightAs t mode s weights sets tops p list count list (record { most = most; count = count })
   tight-recalled {top = top} e v w c m = record {
-    ledger = w;
-    grows = grows-refl;
+    list = extended-refl w;
     no-more = m .0;
     bounds = λ x j.
         let k : weightOf (t .tasks .count) weights x ≤ top = rw v (c .bounds x (takes-map (λ y late. subst (λ (b : Bool). Bad (tasksIn t) b list count y) (sym e) late) (j .takes)) (j .inside)) in
@@ -109,20 +108,19 @@ module _ {t : Table} {s : State} {listing : Bool} {places : ℕ} {weights sets t
 
   -- or by packing
   pub tight-packed : Sound t → Fits t s → Eligible t s p (getD sets p 0) → {reach : ℕ} {new : List ℕ} (r : Packed) {most : ℕ}
-      → PackedAs (t .tasks .count) (tasksIn t) listing places (t .tasks .memory) (exclusionsOf t) (loadsOf t) weights (packOf s sets tops p reach) list count new r
-      → (most ≤ getD tops p 0) × (most ≤ r .most) × ((most ≡ getD tops p 0) ⊎ (most ≡ r .most)) → TightAs t listing places s weights sets tops p list count new (record { most = most; count = r .count })
+      → PackedAs (t .tasks .count) (tasksIn t) mode (t .tasks .memory) (exclusionsOf t) (loadsOf t) weights (packOf s sets tops p reach) list count new r
+      → (most ≤ getD tops p 0) × (most ≤ r .most) × ((most ≡ getD tops p 0) ⊎ (most ≡ r .most)) → TightAs t mode s weights sets tops p list count new (record { most = most; count = r .count })
   tight-packed h f e r a m = record {
-    ledger = a .ledger;
-    grows = grows-map (λ c g. met-among h f low (has (getD sets p 0)) (e .waits) (e .resides) g) (a .grows);
+    list = extended-map (λ c g. met-among h f low (has (getD sets p 0)) (e .waits) (e .resides) g) (a .list);
     no-more = m .0;
     bounds = λ x j.
-        let b = o .bounds p low x (joins-map (λ y. bad-grows (tasksIn t) listing y (a .grows)) j) in
+        let b = o .bounds p low x (joins-map (λ y. bad-grows (tasksIn t) (mode .listing) y (a .list .grows)) j) in
         ⊎-elim (λ i. omega arith) (λ i. omega (arith, a .bounds x (j .takes) (j .inside) (omega arith))) (m .2);
   }
 
 -- a bound that can be kept
-pub tight-capped : {t : Table} {listing : Bool} {places : ℕ} {s : State} {weights sets tops old new : List ℕ} {columns : List (List ℕ)} {p before row : ℕ} (r : Packed) → listing ≡ false
-    → weights ≡ weightsIn columns row → TightAs t listing places s weights sets tops p old before new r
+pub tight-capped : {t : Table} {mode : Mode} {s : State} {weights sets tops old new : List ℕ} {columns : List (List ℕ)} {p before row : ℕ} (r : Packed) → mode .listing ≡ false
+    → weights ≡ weightsIn columns row → TightAs t mode s weights sets tops p old before new r
     → Capped t columns (getD (s .on) p 0) (getD sets p 0) row (getD (s .memory) p 0) (getD (s .load) p 0) (r .most)
 tight-capped {t} {new = new} r e v a = record {
   bounds = λ x w f. rw (← v) (a .bounds x (record { inside = f; takes = takes-map (λ y bad. subst (λ (b : Bool). Bad (tasksIn t) b new (r .count) y) e bad) w }));
@@ -137,54 +135,52 @@ light-of l (suc (suc (suc w))) h k = absurd (omega arith)
 
 -- what the packing leaves, by the table's columns
 pub packed-as : {t : Table} {sizes : Sizes} {timing columns links : List (List ℕ)} → Lends t sizes timing columns links
-    → {listing : Bool} {places : ℕ} {weights : List ℕ} {pack : Pack} {old new : List ℕ} {before : ℕ} {r : Packed}
-    → PackedAs (sizes .tasks) (tasksOf (sizes .tasks) timing) listing places (memoryRow columns) (exclusionRow columns) (loadRow columns) weights pack old before new r
-    → PackedAs (t .tasks .count) (tasksIn t) listing places (t .tasks .memory) (exclusionsOf t) (loadsOf t) weights pack old before new r
+    → {mode : Mode} {weights : List ℕ} {pack : Pack} {old new : List ℕ} {before : ℕ} {r : Packed}
+    → PackedAs (sizes .tasks) (tasksOf (sizes .tasks) timing) mode (memoryRow columns) (exclusionRow columns) (loadRow columns) weights pack old before new r
+    → PackedAs (t .tasks .count) (tasksIn t) mode (t .tasks .memory) (exclusionsOf t) (loadsOf t) weights pack old before new r
 packed-as l a = rw (lent-tasks l, l .rules .tasks, l .rules .same-memory, l .rules .same-exclusions, l .rules .same-loads) at a
 
 -- ---- the loop over the processors
 
-pub record Tightening (t : Table) (listing : Bool) (places : ℕ) (s : State) (weights sets old : List ℕ) (before : ℕ) (tops list : List ℕ) (listed : ℕ) : Type 0 where
-  pub ledger : Ledger (tasksIn t) places list listed
-  pub grows : Grows (Met t (Within (standing (s .on)))) old before list listed
-  pub holds : Tops t s (Bad (tasksIn t) listing list listed) weights sets tops
+pub record Tightening (t : Table) (mode : Mode) (s : State) (weights sets old : List ℕ) (before : ℕ) (tops new : List ℕ) (listed : ℕ) : Type 0 where
+  pub list : Extended (Met t (Within (standing (s .on)))) (tasksIn t) old before new listed
+  pub holds : Tops t s (Bad (tasksIn t) (mode .listing) new listed) weights sets tops
 
-pub tightening-start : {t : Table} {listing : Bool} {places : ℕ} {s : State} {weights sets tops list : List ℕ} {count : ℕ} → Ledger (tasksIn t) places list count
-    → Tops t s (Bad (tasksIn t) listing list count) weights sets tops → Tightening t listing places s weights sets list count tops list count
-tightening-start w o = record { ledger = w; grows = grows-refl; holds = o }
+pub tightening-start : {t : Table} {mode : Mode} {s : State} {weights sets tops list : List ℕ} {count : ℕ} → Ledger (tasksIn t) list count
+    → Tops t s (Bad (tasksIn t) (mode .listing) list count) weights sets tops → Tightening t mode s weights sets list count tops list count
+tightening-start w o = record { list = extended-refl w; holds = o }
 
-module _ {t : Table} {listing : Bool} {places : ℕ} {s : State} {weights sets old : List ℕ} {before : ℕ} {tops list : List ℕ} {listed : ℕ}
-    (w : Tightening t listing places s weights sets old before tops list listed) where
+module _ {t : Table} {mode : Mode} {s : State} {weights sets old : List ℕ} {before : ℕ} {tops list : List ℕ} {listed : ℕ}
+    (w : Tightening t mode s weights sets old before tops list listed) where
   -- the next processor's bound can be made tighter
-  pub tightening-topped : Fits t s → Choices t s (Bad (tasksIn t) listing old before) sets → Topped t listing places s weights sets tops list listed
-  tightening-topped f c = record { fits = f; ledger = w .ledger; eligible = λ p low. c p low .eligible; holds = w .holds }
+  pub tightening-topped : Weighable t mode s sets old before → Topped t mode s weights sets tops list listed
+  tightening-topped x = record { fits = x .fits; ledger = w .list .ledger; eligible = λ p low. x .choices p low .eligible; holds = w .holds }
 
-  pub tightening-next : {p : ℕ} → p < length tops → {new : List ℕ} (r : Packed) → TightAs t listing places s weights sets tops p list listed new r
-      → Tightening t listing places s weights sets old before (set tops p (r .most)) new (r .count)
+  pub tightening-next : {p : ℕ} → p < length tops → {new : List ℕ} (r : Packed) → TightAs t mode s weights sets tops p list listed new r
+      → Tightening t mode s weights sets old before (set tops p (r .most)) new (r .count)
   tightening-next {p} low {new} r a = record {
-    ledger = a .ledger;
-    grows = grows-trans (w .grows) (a .grows);
+    list = extended-trans (w .list) (a .list);
     holds = record {
-      small = set-all (λ i x. x ≤ 103079215080) tops p (r .most) low (w .holds .small) (omega (arith, a .no-more, w .holds .small p));
+      small = set-all (λ i x. x ≤ heaviest) tops p (r .most) low (w .holds .small) (omega (arith, a .no-more, w .holds .small p));
       bounds = λ i l. go i l (ℕ-discrete i p);
     };
   }
     where
-      go : (i : ℕ) → i < t .processors .count → Dec (i ≡ p) → Bounds t s (Bad (tasksIn t) listing new (r .count)) weights sets i (getD (set tops p (r .most)) i 0)
+      go : (i : ℕ) → i < t .processors .count → Dec (i ≡ p) → Bounds t s (Bad (tasksIn t) (mode .listing) new (r .count)) weights sets i (getD (set tops p (r .most)) i 0)
       go i l (yes e) = rw (e, getD-set-same tops p (r .most) 0 low) (a .bounds)
-      go i l (no e) = λ x j. rw (getD-set-other tops p i (r .most) 0 e) (w .holds .bounds i l x (joins-map (λ y. bad-grows (tasksIn t) listing y (a .grows)) j))
+      go i l (no e) = λ x j. rw (getD-set-other tops p i (r .most) 0 e) (w .holds .bounds i l x (joins-map (λ y. bad-grows (tasksIn t) (mode .listing) y (a .list .grows)) j))
 
   -- the open tasks weigh more than all processors can take
-  pub tightening-end : Sound t → Fits t s → Choices t s (Bad (tasksIn t) listing old before) sets → {sum need : ℕ} → sum ≡ sumTo (t .processors .count) (λ p. getD tops p 0)
-      → need ≡ weightOf (t .tasks .count) weights (s .left) → BoundedAs t listing places s old before list (record { hopeless = ltb sum need; count = listed })
-  tightening-end h f c {sum} {need} e i = record { ledger = w .ledger; grows = w .grows; answer = λ o. refuted-fair h listing list listed (λ q fair. none o q fair) }
+  pub tightening-end : Sound t → Weighable t mode s sets old before → {sum need : ℕ} → sum ≡ sumTo (t .processors .count) (λ p. getD tops p 0)
+      → need ≡ weightOf (t .tasks .count) weights (s .left) → BoundedAs t mode s old before list (record { hopeless = ltb sum need; count = listed })
+  tightening-end h x {sum} {need} e i = record { list = w .list; answer = λ o. refuted-fair h (mode .listing) list listed (λ q fair. none o q fair) }
     where
-      none : ltb sum need ≡ true → (q : List ℕ) → Fair t s (Bad (tasksIn t) listing list listed) q → ⊥
+      none : ltb sum need ≡ true → (q : List ℕ) → Fair t s (Bad (tasksIn t) (mode .listing) list listed) q → ⊥
       none o q fair =
           omega (
             arith,
             ltb-true sum need o,
             open-sum s (fair .whole) weights,
             sum-le (t .processors .count) (λ p. weightOf (t .tasks .count) weights (openOn (t .tasks .count) s q p)) (λ p. getD tops p 0)
-                (λ p l. w .holds .bounds p l (openOn (t .tasks .count) s q p) (fair-joins h f fair l (choice-map (λ y. bad-grows (tasksIn t) listing y (w .grows)) (c p l)))),
+                (λ p l. w .holds .bounds p l (openOn (t .tasks .count) s q p) (fair-joins h (x .fits) fair l (choice-map (λ y. bad-grows (tasksIn t) (mode .listing) y (w .list .grows)) (x .choices p l)))),
           )

@@ -2,7 +2,7 @@
 use mathlib.Core.Path.{_≡_}
 use mathlib.Core.Bool.{Bool}
 use mathlib.Core.List.{List}
-use Prim.Native.Nat.{ℕ, _≤_, _<_}
+use Prim.Native.Nat.{ℕ, _*_, _≤_, _<_}
 use lib.Dec.{T}
 use lib.ListN.{getD}
 use Rattle.mask.specs.Mask.{below, Subset}
@@ -12,9 +12,10 @@ use Rattle.timing.specs.Timing.{tasksIn}
 use Rattle.columns.specs.Columns.{loadsOf, exclusionsOf}
 use Rattle.partial.specs.declared.State.{State}
 use Rattle.partial.specs.Partial.{Fits}
-use Rattle.ledger.specs.Ledger.{Ledger, Grows, Bad}
+use Rattle.ledger.specs.declared.Mode.{Mode}
+use Rattle.ledger.specs.Ledger.{Ledger, Extended, Bad}
 use Rattle.region.specs.Region.{Within, Met}
-use Rattle.offer.specs.Offer.{Eligible}
+use Rattle.offer.specs.Offer.{Eligible, Choices}
 use Rattle.packing.specs.declared.Packed.{Packed}
 use Rattle.packing.specs.Packing.{weightOf, Takes}
 
@@ -22,9 +23,13 @@ use Rattle.packing.specs.Packing.{weightOf, Takes}
 abbrev pub Light : List ℕ → Type 0
 Light weights = (k : ℕ) → getD weights k 0 < 4294967296
 
+-- no set of tasks weighs more
+abbrev pub heaviest : ℕ
+heaviest = 24 * 4294967295
+
 -- r bounds the weight of the sets x of candidates that weigh no more than what is left of the load, where row 0 weighs them, or of the memory, where row 1 does
 pub record TopAs (weights : List ℕ) (set row space spare r : ℕ) : Type 0 where
-  pub small : r ≤ 103079215080
+  pub small : r ≤ heaviest
   pub bounds : (n : ℕ) → T (below n set) → (x : ℕ) → Subset x set → (row ≡ 0 → weightOf n weights x ≤ spare) → (row ≡ 1 → weightOf n weights x ≤ space) → weightOf n weights x ≤ r
 
 -- processor r can take whatever p can
@@ -45,19 +50,24 @@ Bounds t s B weights sets p top = (x : ℕ) → Joins t s B sets p x → weightO
 
 -- such a bound for each processor, small enough for a sum of them
 pub record Tops (t : Table) (s : State) (B : (ℕ → Bool) → Type 0) (weights sets tops : List ℕ) : Type 0 where
-  pub small : (p : ℕ) → getD tops p 0 ≤ 103079215080
+  pub small : (p : ℕ) → getD tops p 0 ≤ heaviest
   pub bounds : (p : ℕ) → p < t .processors .count → Bounds t s B weights sets p (getD tops p 0)
 
--- what a tighter bound begins with: a state and the list of conflicts so far, candidates for each processor, and a bound for each
-pub record Topped (t : Table) (listing : Bool) (places : ℕ) (s : State) (weights sets tops list : List ℕ) (count : ℕ) : Type 0 where
+-- what the weight bound begins with: a state and the list of conflicts so far, and all candidates of each processor
+pub record Weighable (t : Table) (mode : Mode) (s : State) (sets list : List ℕ) (count : ℕ) : Type 0 where
   pub fits : Fits t s
-  pub ledger : Ledger (tasksIn t) places list count
+  pub ledger : Ledger (tasksIn t) list count
+  pub choices : Choices t s (Bad (tasksIn t) (mode .listing) list count) sets
+
+-- what a tighter bound begins with: a state and the list of conflicts so far, candidates for each processor, and a bound for each
+pub record Topped (t : Table) (mode : Mode) (s : State) (weights sets tops list : List ℕ) (count : ℕ) : Type 0 where
+  pub fits : Fits t s
+  pub ledger : Ledger (tasksIn t) list count
   pub eligible : (p : ℕ) → p < t .processors .count → Eligible t s p (getD sets p 0)
-  pub holds : Tops t s (Bad (tasksIn t) listing list count) weights sets tops
+  pub holds : Tops t s (Bad (tasksIn t) (mode .listing) list count) weights sets tops
 
 -- a bound for p that is no larger than before
-pub record TightAs (t : Table) (listing : Bool) (places : ℕ) (s : State) (weights sets tops : List ℕ) (p : ℕ) (old : List ℕ) (before : ℕ) (new : List ℕ) (r : Packed) : Type 0 where
-  pub ledger : Ledger (tasksIn t) places new (r .count)
-  pub grows : Grows (Met t (Within (standing (s .on)))) old before new (r .count)
+pub record TightAs (t : Table) (mode : Mode) (s : State) (weights sets tops : List ℕ) (p : ℕ) (old : List ℕ) (before : ℕ) (new : List ℕ) (r : Packed) : Type 0 where
+  pub list : Extended (Met t (Within (standing (s .on)))) (tasksIn t) old before new (r .count)
   pub no-more : r .most ≤ getD tops p 0
-  pub bounds : Bounds t s (Bad (tasksIn t) listing new (r .count)) weights sets p (r .most)
+  pub bounds : Bounds t s (Bad (tasksIn t) (mode .listing) new (r .count)) weights sets p (r .most)

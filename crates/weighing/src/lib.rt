@@ -6,18 +6,14 @@ ghost use lib.ListN.{length, getD};
 ghost use mathlib.Core.Bool.{false};
 ghost use Rattle.finite.specs.Finite.{sumTo};
 ghost use Rattle.mask.specs.Mask.{below};
-ghost use Rattle.table.specs.declared.Table.{Table};
 ghost use Rattle.timing.specs.Timing.{tasksIn};
 ghost use Rattle.columns.specs.Columns.{weightsIn};
-ghost use Rattle.partial.specs.Partial.{Fits};
 ghost use Rattle.known.specs.Known.{Knows};
-ghost use Rattle.ledger.specs.Ledger.{Ledger, Bad};
-ghost use Rattle.region.specs.Lends.{Lends};
-ghost use Rattle.offer.specs.Offer.{Choices};
+ghost use Rattle.region.specs.Given.{Given, Gives};
 ghost use Rattle.packing.specs.Packing.{weightOf};
 ghost use Rattle.memo.specs.Memo.{Learnt};
 ghost use Rattle.weighing.specs.Bound.{BoundedAs};
-ghost use Rattle.weighing.specs.Weighing.{Light, TopAs, Covers, Topped, TightAs};
+ghost use Rattle.weighing.specs.Weighing.{Light, heaviest, TopAs, Covers, Weighable, Topped, TightAs};
 use columns::Columns;
 use columns::LOAD;
 use columns::Messages;
@@ -50,7 +46,7 @@ fn lower(a: u64, b: u64) -> u64
 // The weight of a set of tasks.
 fn weight_of(weights: &[u32; 24], set: u32) -> u64
     requires { ⌜ T (below 24 set) × Light (now weights) ⌝ }
-    ensures { λ r. ⌜ (r ≤ 103079215080) × ((n : ℕ) → T (below n set) → r ≡ weightOf n (now (weights .entry)) set) ⌝ }
+    ensures { λ r. ⌜ (r ≤ heaviest) × ((n : ℕ) → T (below n set) → r ≡ weightOf n (now (weights .entry)) set) ⌝ }
 {
     let mut sum: u64 = 0;
     let mut rest = set;
@@ -80,7 +76,8 @@ fn top(weights: &[u32; 24], set: u32, row: usize, space: u64, spare: u64) -> u64
 // Such a bound for each of the m processors.
 fn tops_of(weights: &[u32; 24], sets: [u32; 8], row: usize, s: State, m: usize) -> [u64; 8]
     requires { ⌜ (m ≤ 8) × Light (now weights) × ((p : ℕ) → p < m → T (below 24 (getD sets p 0))) ⌝ }
-    ensures { λ r. ⌜ (length r ≡ 8) × ((p : ℕ) → getD r p 0 ≤ 103079215080) × ((p : ℕ) → p < m → TopAs (now (weights .entry)) (getD sets p 0) row (getD (s .memory) p 0) (getD (s .load) p 0) (getD r p 0)) ⌝ }
+    ensures { λ r. ⌜ (length r ≡ 8) × ((p : ℕ) → getD r p 0 ≤ heaviest)
+        × ((p : ℕ) → p < m → TopAs (now (weights .entry)) (getD sets p 0) row (getD (s .memory) p 0) (getD (s .load) p 0) (getD r p 0)) ⌝ }
 {
     let mut tops = [0u64; 8];
     let mut p: usize = 0;
@@ -93,7 +90,7 @@ fn tops_of(weights: &[u32; 24], sets: [u32; 8], row: usize, s: State, m: usize) 
 
 // The sum of the first m.
 fn total(tops: [u64; 8], m: usize) -> u64
-    requires { ⌜ (m ≤ 8) × ((p : ℕ) → getD tops p 0 ≤ 103079215080) ⌝ }
+    requires { ⌜ (m ≤ 8) × ((p : ℕ) → getD tops p 0 ≤ heaviest) ⌝ }
     ensures { λ r. ⌜ r ≡ sumTo m (λ p. getD tops p 0) ⌝ }
 {
     let mut sum: u64 = 0;
@@ -156,9 +153,12 @@ fn pack<'a>(
     count: usize,
     known: &mut Known,
 ) -> Packed
-    requires { ⌜ ((t : Table) × Lends t sizes (now timing) (now columns) (now messages) × Topped t (mode .listing) (mode .places) s (weightsIn (now columns) row) sets tops (now list) count × Knows (tasksIn t) (now known)) × (row < 3) × (p < sizes .processors) ⌝ }
-    ensures { λ r. ⌜ ((t : Table) → Lends t sizes (now (timing .entry)) (now (columns .entry)) (now (messages .entry))
-        → Topped t (mode .listing) (mode .places) s (weightsIn (now (columns .entry)) row) sets tops (now (list .entry)) count → Knows (tasksIn t) (now (known .entry)) → TightAs t (mode .listing) (mode .places) s (weightsIn (now (columns .entry)) row) sets tops p (now (list .entry)) count (now (list .exit)) r × Knows (tasksIn t) (now (known .exit))) ⌝ }
+    requires { ⌜ Given sizes (now timing) (now columns) (now messages)
+        (λ t. Topped t mode s (weightsIn (now columns) row) sets tops (now list) count) (λ t. Knows (tasksIn t) (now known))
+        × (row < 3) × (p < sizes .processors) ⌝ }
+    ensures { λ r. ⌜ Gives sizes (now (timing .entry)) (now (columns .entry)) (now (messages .entry))
+        (λ t. Topped t mode s (weightsIn (now (columns .entry)) row) sets tops (now (list .entry)) count) (λ t. Knows (tasksIn t) (now (known .entry)))
+        (λ t. TightAs t mode s (weightsIn (now (columns .entry)) row) sets tops p (now (list .entry)) count (now (list .exit)) r × Knows (tasksIn t) (now (known .exit))) ⌝ }
 {
     let most = tops[p];
     let set = sets[p];
@@ -208,9 +208,12 @@ fn pack_once<'a>(
     known: &mut Known,
     memo: &mut Memo,
 ) -> Packed
-    requires { ⌜ ((t : Table) × Lends t sizes (now timing) (now columns) (now messages) × Topped t (mode .listing) (mode .places) s (weightsIn (now columns) row) sets tops (now list) count × Learnt t (now columns) (now known) (now memo)) × (row < 3) × (p < sizes .processors) × ((mode .listing) ≡ false) ⌝ }
-    ensures { λ r. ⌜ ((t : Table) → Lends t sizes (now (timing .entry)) (now (columns .entry)) (now (messages .entry))
-        → Topped t (mode .listing) (mode .places) s (weightsIn (now (columns .entry)) row) sets tops (now (list .entry)) count → Learnt t (now (columns .entry)) (now (known .entry)) (now (memo .entry)) → TightAs t (mode .listing) (mode .places) s (weightsIn (now (columns .entry)) row) sets tops p (now (list .entry)) count (now (list .exit)) r × Learnt t (now (columns .entry)) (now (known .exit)) (now (memo .exit))) ⌝ }
+    requires { ⌜ Given sizes (now timing) (now columns) (now messages)
+        (λ t. Topped t mode s (weightsIn (now columns) row) sets tops (now list) count) (λ t. Learnt t (now columns) (now known) (now memo))
+        × (row < 3) × (p < sizes .processors) × (mode .listing ≡ false) ⌝ }
+    ensures { λ r. ⌜ Gives sizes (now (timing .entry)) (now (columns .entry)) (now (messages .entry))
+        (λ t. Topped t mode s (weightsIn (now (columns .entry)) row) sets tops (now (list .entry)) count) (λ t. Learnt t (now (columns .entry)) (now (known .entry)) (now (memo .entry)))
+        (λ t. TightAs t mode s (weightsIn (now (columns .entry)) row) sets tops p (now (list .entry)) count (now (list .exit)) r × Learnt t (now (columns .entry)) (now (known .exit)) (now (memo .exit))) ⌝ }
 {
     let on = s.on[p];
     let set = sets[p];
@@ -259,9 +262,12 @@ fn tighten<'a>(
     known: &mut Known,
     memo: &mut Memo,
 ) -> Packed
-    requires { ⌜ ((t : Table) × Lends t sizes (now timing) (now columns) (now messages) × Topped t (mode .listing) (mode .places) s (weightsIn (now columns) row) sets tops (now list) count × Learnt t (now columns) (now known) (now memo)) × (row < 3) × (p < sizes .processors) ⌝ }
-    ensures { λ r. ⌜ ((t : Table) → Lends t sizes (now (timing .entry)) (now (columns .entry)) (now (messages .entry))
-        → Topped t (mode .listing) (mode .places) s (weightsIn (now (columns .entry)) row) sets tops (now (list .entry)) count → Learnt t (now (columns .entry)) (now (known .entry)) (now (memo .entry)) → TightAs t (mode .listing) (mode .places) s (weightsIn (now (columns .entry)) row) sets tops p (now (list .entry)) count (now (list .exit)) r × Learnt t (now (columns .entry)) (now (known .exit)) (now (memo .exit))) ⌝ }
+    requires { ⌜ Given sizes (now timing) (now columns) (now messages)
+        (λ t. Topped t mode s (weightsIn (now columns) row) sets tops (now list) count) (λ t. Learnt t (now columns) (now known) (now memo))
+        × (row < 3) × (p < sizes .processors) ⌝ }
+    ensures { λ r. ⌜ Gives sizes (now (timing .entry)) (now (columns .entry)) (now (messages .entry))
+        (λ t. Topped t mode s (weightsIn (now (columns .entry)) row) sets tops (now (list .entry)) count) (λ t. Learnt t (now (columns .entry)) (now (known .entry)) (now (memo .entry)))
+        (λ t. TightAs t mode s (weightsIn (now (columns .entry)) row) sets tops p (now (list .entry)) count (now (list .exit)) r × Learnt t (now (columns .entry)) (now (known .exit)) (now (memo .exit))) ⌝ }
 {
     let r = like(s, sets, p);
     if r < p {
@@ -320,10 +326,12 @@ pub fn weigh<'a>(
     known: &mut Known,
     memo: &mut Memo,
 ) -> Bounded
-    requires { ⌜ ((t : Table) × Lends t sizes (now timing) (now columns) (now messages) × Fits t s × Ledger (tasksIn t) (mode .places) (now list) count × Choices t s (Bad (tasksIn t) (mode .listing) (now list) count) sets × Learnt t (now columns) (now known) (now memo)) × (row < 3) ⌝ }
-    ensures { λ r. ⌜ ((t : Table) → Lends t sizes (now (timing .entry)) (now (columns .entry)) (now (messages .entry))
-        → Fits t s → Ledger (tasksIn t) (mode .places) (now (list .entry)) count
-        → Choices t s (Bad (tasksIn t) (mode .listing) (now (list .entry)) count) sets → Learnt t (now (columns .entry)) (now (known .entry)) (now (memo .entry)) → BoundedAs t (mode .listing) (mode .places) s (now (list .entry)) count (now (list .exit)) r × Learnt t (now (columns .entry)) (now (known .exit)) (now (memo .exit))) ⌝ }
+    requires { ⌜ Given sizes (now timing) (now columns) (now messages)
+        (λ t. Weighable t mode s sets (now list) count) (λ t. Learnt t (now columns) (now known) (now memo))
+        × (row < 3) ⌝ }
+    ensures { λ r. ⌜ Gives sizes (now (timing .entry)) (now (columns .entry)) (now (messages .entry))
+        (λ t. Weighable t mode s sets (now (list .entry)) count) (λ t. Learnt t (now (columns .entry)) (now (known .entry)) (now (memo .entry)))
+        (λ t. BoundedAs t mode s (now (list .entry)) count (now (list .exit)) r × Learnt t (now (columns .entry)) (now (known .exit)) (now (memo .exit))) ⌝ }
 {
     let m = sizes.processors;
     let need = weight_of(&columns[LOAD + row], s.left);

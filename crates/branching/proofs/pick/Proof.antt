@@ -39,6 +39,8 @@ pick-spec =
     (tie.spec
     Inv-loop
     μ-loop
+    (λ c. search needs)  -- mul-full
+    (λ c. search needs)  -- add-full
     (λ c κs. search needs)  -- lowest-requires
     (λ c.
     let z = c .before .before .before .pre in

@@ -1,4 +1,4 @@
--- The list that is lent has no places, so a set may not stand where it is late, and may where it is not.
+-- Nothing is listed, so a set may not stand where it is late, and may where it is not.
 use borrow.Author.Needs.{needs}
 use Rattle.deciding.proofs.Answering.{ready-begins, attempted}
 use Rattle.deciding.proofs.attempt.Statement.{statement}

@@ -5,9 +5,8 @@ use mathlib.Core.Logic.{⊎-elim}
 use Prim.Native.Nat.{_-_, _≤_}
 use native.Mathlib.Omega.{arith}
 use borrow.Author.Needs.{needs}
-use Rattle.table.specs.declared.Table.{Table}
-use Rattle.region.specs.Lends.{Lends}
 use Rattle.region.specs.Begins.{Ready}
+use Rattle.region.specs.Given.{Gives}
 use Rattle.memo.specs.Memo.{Learnt}
 use Rattle.deciding.proofs.Answering.{decided}
 use Rattle.deciding.proofs.decide.Statement.{statement}
@@ -15,7 +14,7 @@ use Rattle.deciding.proofs.decide.Tie as tie
 
 abbrev Inv-loop : tie.InvT-loop
 Inv-loop timing columns messages sizes s notes₀ known₀ memo₀ fuel₀ notes known memo fuel =
-    (300 ≤ fuel) × ((t : Table) → Lends t sizes timing columns messages → Ready t s → Learnt t columns known₀ memo₀ → Learnt t columns known memo)
+    (300 ≤ fuel) × Gives sizes timing columns messages (λ t. Ready t s) (λ t. Learnt t columns known₀ memo₀) (λ t. Learnt t columns known memo)
 
 abbrev μ-loop : tie.MeasureT-loop
 μ-loop timing columns messages sizes s notes₀ known₀ memo₀ fuel₀ notes known memo fuel = 87000 - fuel

@@ -4,11 +4,10 @@ use borrow.Author.Needs.{needs}
 use mathlib.Core.Path.{_≡_, refl, _∙_}
 use Prim.Native.Nat.{ℕ, _-_, _≤_, _<_}
 use lib.ListN.{length}
-use Rattle.table.specs.declared.Table.{Table}
-use Rattle.region.specs.Lends.{Lends}
+use Rattle.region.specs.Given.{Gives}
 use Rattle.memo.specs.Memo.{Learnt}
 use Rattle.first.specs.First.{Placing}
-use Rattle.first.proofs.Placing.{step-taken, placing-next, Passing, passing-start, passing-placing, passing-below, passing-next, taken-good, taken-ledger, first-whole, first-taken, not-missed}
+use Rattle.first.proofs.Placing.{step-taken, placing-next, Passing, passing-start, passing-trying, passing-next, taken-good, taken-ledger, first-whole, first-taken, not-missed}
 use borrow.Fn.Kinds.{In}
 use borrow.Fn.PlainCycle.{Measures, is, falls, and}
 use Rattle.first.proofs.first.Reads as first
@@ -29,13 +28,13 @@ abbrev first-below : ℕ → In 5 first-kinds.ps
 first-below t = and 5 first-kinds.ps (falls 5 first-kinds.ps _<_ μ-first t) first.Pre
 
 abbrev first-Inv-loop : first-lts.InvT-loop
-first-Inv-loop timing columns messages sizes s k witness list₀ places count cut notes₀ known₀ memo₀ on at₀ marked₀ p₀ list notes known memo at marked p =
+first-Inv-loop timing columns messages sizes s k witness list₀ notes₀ known₀ memo₀ on at₀ p₀ list notes known memo at p =
     (p ≤ sizes .processors) × (length list ≡ length list₀)
-    × ((t : Table) → Lends t sizes timing columns messages → Placing t places s k witness list₀ count → Learnt t columns known₀ memo₀
-    → Passing t places s k witness list₀ count cut p list at marked × Learnt t columns known memo)
+    × Gives sizes timing columns messages (λ t. Placing t s k witness list₀ (at₀ .count)) (λ t. Learnt t columns known₀ memo₀)
+    (λ t. Passing t s k witness list₀ at₀ p list at × Learnt t columns known memo)
 
 abbrev first-μ-loop : first-lts.MeasureT-loop
-first-μ-loop timing columns messages sizes s k witness list₀ places count cut notes₀ known₀ memo₀ on at₀ marked₀ p₀ list notes known memo at marked p =
+first-μ-loop timing columns messages sizes s k witness list₀ notes₀ known₀ memo₀ on at₀ p₀ list notes known memo at p =
     sizes .processors - p
 
 pub +first-spec : {M : Type 1} → statement M
@@ -51,57 +50,61 @@ pub +first-spec : {M : Type 1} → statement M
     first.Post
     first-Inv-loop
     first-μ-loop
-    (λ c u l w k. (first-whole w (l .rules .sound) (omega (arith, l .rules .tasks, c .if1 .taken)) (c .before .before .before .before .args .cut), k))  -- returns
-    (λ c. (omega arith, refl, λ u l w k. (passing-start w (c .before .before .before .before .args .cut), k)))  -- loop-holds
+    (λ c u l w k. (first-whole (c .before .before .before .before .args .listed) w (l .rules .sound) (omega (arith, l .rules .tasks, c .if1 .taken)), k))  -- returns
+    (λ c. (omega arith, refl, λ u l w k. (passing-start (c .before .before .before .before .args .listed) w, k)))  -- loop-holds
     (λ c κs.
     let i = c .before .before .before .before .before .before in
     let b = i .before .before .before .before .before .pre .1 in
     let v = i .loop .inv .2 (b .0) (b .1) (b .2) (b .3) in
-    ((b .0, b .1, passing-placing (b .2) (v .0), passing-below (b .2) (v .0), v .1), omega (arith, b .2 .upto, b .1 .rules .tasks, i .before .if1 .left), c .before .before .before .before .if2 .taken))  -- try-processor-requires
+    ((b .0, b .1, passing-trying (v .0) (b .2), v .1), omega (arith, b .2 .upto, b .1 .rules .tasks, i .before .if1 .left), c .before .before .before .before .if2 .taken))  -- try-processor-requires
     (λ c κs.
-    let i = c .before .before .before .before .before .before .before .before .before .before in
+    let i = c .before .before .before .before .before .before .before .before .before .before .before in
     let a = i .before .before .before .before .before .pre .1 in
-    ((a .0, a .1 .rules, a .2 .fits), a .2 .open-from _ (omega arith) (omega (arith, a .2 .upto, a .1 .rules .tasks, i .before .if1 .left)), c .before .before .before .before .before .before .before .before .if2 .taken))  -- step-requires
-    (λ c. let a = c .before .before .before .before .before .before .before .before .before .before .before .before .before .before .before .before .before .before .pre .1 in omega (arith, a .2 .upto, a .1 .rules .sound .tasks .most))  -- add-first
+    ((a .0, a .1 .rules, a .2 .fits), a .2 .open-from _ (omega arith) (omega (arith, a .2 .upto, a .1 .rules .tasks, i .before .if1 .left)), c .before .before .before .before .before .before .before .before .before .if2 .taken))  -- step-requires
+    (λ c.
+    let a = c .before .before .before .before .before .before .before .before .before .before .before .before .before .before .before .before .before .before .before .pre .1 in
+    omega (arith, a .2 .upto, a .1 .rules .sound .tasks .most))  -- add-first
     (λ c κs.
-    let x = c .before .before .before .before .before .before .before .before .before .before in
+    let x = c .before .before .before .before .before .before .before .before .before .before .before in
     let i = x .before .before .before .before .before .before .before in
     let a = i .before .before .before .before .before .pre in
     let u = a .1 .0 in
     let l = a .1 .1 in
     let w = a .1 .2 in
     let v = i .loop .inv .2 u l w (a .1 .3) in
-    let y = x .try-processor .ensures u l (passing-placing w (v .0)) (passing-below w (v .0)) (v .1) in
+    let y = x .try-processor .ensures u l (passing-trying (v .0) w) (v .1) in
     let e = c .before .before .before .before .before .before .before .if3 .taken in
     let below : i .before .before .before .before .before .args .k < u .tasks .count = omega (arith, w .upto, l .rules .tasks, i .before .if1 .left) in
-    let good = taken-good w (v .0) _ (x .try-processor .result) (y .0) e in
+    let good = taken-good (v .0) w _ (x .try-processor .result) (y .0) e in
     let step = step-taken (l .rules .sound) w (i .loop .p) good (c .before .before .before .before .before .before .step .result .allowed) (c .before .before .before .before .before .before .step .ensures .1 u (l .rules) (w .fits)) in
-    (omega (arith, a .0, below, l .rules .tasks), (u, l, placing-next (l .rules .sound) w below (taken-ledger w (v .0) _ (x .try-processor .result) (y .0) e) good step, y .1)))  -- first-requires
-    (λ c. c .before .before .first .kept .1 .1 .1 .1 .1 .1 .1 .0 ∙ c .before .before .before .before .before .before .before .before .before .before .before .before .before .try-processor .kept .1 .1 .1 .1 .1 .1 .1 .1 .0 ∙ c .before .before .before .before .before .before .before .before .before .before .before .before .before .before .before .before .before .before .before .before .loop .inv .1)  -- same-length
+    (omega (arith, a .0, below, l .rules .tasks), (u, l, placing-next (l .rules .sound) w below (taken-ledger (v .0) w _ (x .try-processor .result) (y .0) e) good step, y .1)))  -- first-requires
+    (λ c. c .before .before .first .kept .1 .1 .1 .1 .1 .1 .1 .0
+    ∙ c .before .before .before .before .before .before .before .before .before .before .before .before .before .before .try-processor .kept .1 .1 .1 .1 .1 .1 .1 .1 .0
+    ∙ c .before .before .before .before .before .before .before .before .before .before .before .before .before .before .before .before .before .before .before .before .before .loop .inv .1)  -- same-length
     (λ c u l w k.
     let f = c .before .before in
-    let x = f .before .before .before .before .before .before .before .before .before .before .before in
+    let x = f .before .before .before .before .before .before .before .before .before .before .before .before in
     let i = x .before .before .before .before .before .before .before in
     let v = i .loop .inv .2 u l w k in
-    let y = x .try-processor .ensures u l (passing-placing w (v .0)) (passing-below w (v .0)) (v .1) in
+    let y = x .try-processor .ensures u l (passing-trying (v .0) w) (v .1) in
     let e = f .before .before .before .before .before .before .before .before .if3 .taken in
     let below : i .before .before .before .before .before .args .k < u .tasks .count = omega (arith, w .upto, l .rules .tasks, i .before .if1 .left) in
-    let good = taken-good w (v .0) _ (x .try-processor .result) (y .0) e in
+    let good = taken-good (v .0) w _ (x .try-processor .result) (y .0) e in
     let step = step-taken (l .rules .sound) w (i .loop .p) good (f .before .before .before .before .before .before .before .step .result .allowed) (f .before .before .before .before .before .before .before .step .ensures .1 u (l .rules) (w .fits)) in
-    let z = f .first .ensures u l (placing-next (l .rules .sound) w below (taken-ledger w (v .0) _ (x .try-processor .result) (y .0) e) good step) (y .1) in
-    (first-taken w (v .0) _ (x .try-processor .result) (y .0) e below step (f .first .result) (z .0), z .1))  -- returns-2
+    let z = f .first .ensures u l (placing-next (l .rules .sound) w below (taken-ledger (v .0) w _ (x .try-processor .result) (y .0) e) good step) (y .1) in
+    (first-taken (v .0) w _ (x .try-processor .result) (y .0) e below step (f .first .result) (z .0), z .1))  -- returns-2
     (λ c. search needs)  -- add-p
     (λ c. omega arith)  -- loop-less
     (λ c.
-    let x = c .before .before .before in
+    let x = c .before .before .before .before in
     let i = x .before .before .before .before .before .before .before in (
       omega arith,
       x .try-processor .kept .1 .1 .1 .1 .1 .1 .1 .1 .0 ∙ i .loop .inv .1,
       λ u l w k. let v = i .loop .inv .2 u l w k in
-          let y = x .try-processor .ensures u l (passing-placing w (v .0)) (passing-below w (v .0)) (v .1) in
-          (passing-next w (v .0) _ (x .try-processor .result) (y .0) (omega (arith, w .upto, l .rules .tasks, i .before .if1 .left)) (c .if3 .left), y .1),
+          let y = x .try-processor .ensures u l (passing-trying (v .0) w) (v .1) in
+          (passing-next (v .0) w _ (x .try-processor .result) (y .0) (omega (arith, w .upto, l .rules .tasks, i .before .if1 .left)) (c .if3 .left), y .1),
     ))  -- loop-again
     (λ c. search needs)  -- same-length-2
     (λ c u l w k.
     let i = c .before .before in
-    absurd (not-missed w (i .loop .inv .2 u l w k .0) (omega (arith, w .upto, l .rules .tasks, i .before .if1 .left)) (omega (arith, l .rules .processors, c .if2 .left))))  -- returns-3
+    absurd (not-missed (i .loop .inv .2 u l w k .0) w (omega (arith, w .upto, l .rules .tasks, i .before .if1 .left)) (omega (arith, l .rules .processors, c .if2 .left))))  -- returns-3

@@ -23,7 +23,11 @@ covered-spec =
     (λ c. search needs)  -- element-copy-out-hint
     (λ c. record { fits = omega arith })  -- cast-hint
     (λ c κs. search needs)  -- holds-requires
-    (λ c. let h = c .before in (sym (some-true _ _ _ (h .before .if1 .taken) (sym (h .holds .ensures) ∙ c .if2 .taken)), λ s k. k, hinted-hit _ _ _ _ (h .before .before .before .place-of .ensures) (h .before .if1 .taken) (sym (h .holds .ensures) ∙ c .if2 .taken)))  -- returns
+    (λ c. let h = c .before in let inside = sym (h .holds .ensures) ∙ c .if2 .taken in (
+      sym (some-true _ _ _ (h .before .if1 .taken) inside),
+      λ s k. k,
+      hinted-hit _ _ _ _ (h .before .before .before .place-of .ensures) (h .before .if1 .taken) inside,
+    ))  -- returns
     (λ c κs. search needs)  -- covering-requires
     (λ c. search needs)  -- cast-known
     (λ c. search needs)  -- mul-known

@@ -1,10 +1,12 @@
 -- The list stays as it is, or takes a conflict of a late set that holds no listed one.
 use borrow.Author.Needs.{needs}
-use borrow.Author.Tests.{not-true, not-false, eq-eqb, ne-eqb}
+use borrow.Author.Tests.{not-true, not-false, lt-ltb, le-ltb}
 use mathlib.Core.Path.{_≡_, refl, sym, _∙_}
 use mathlib.Core.Bool.{true}
 use mathlib.Core.Logic.{inr}
-use Prim.Native.Nat.{_^_, _<_}
+use Prim.Native.Nat.{_+_, _*_, _^_, _≤_, _<_}
+use lib.Dec.{lt→ltb}
+use lib.ListN.{length}
 use Rattle.mask.specs.Mask.{has}
 use Rattle.schedule.specs.Periodic.{LateSet}
 use Rattle.schedule.specs.Arrays.{tasksOf}
@@ -31,7 +33,7 @@ both c = let l = c .before .before in (not-false (l .before .is-late .result) (l
 
 -- the table of known sets once a conflict within the set was looked for
 after : (c : tie.After-covered) → let z = c .before .before .before .before .before .before .before .before .before .args in
-    c .covered .last .1 .1 .1 .0 ≡ knownAfter (tasksOf (z .n) (z .timing .now)) (z .mode .listing) (z .set) (z .list .now) (z .count) (z .known .now)
+    c .covered .last .1 .1 .1 .0 ≡ knownAfter (tasksOf (z .n) (z .timing .now)) (z .mode) (z .set) (z .list .now) (z .count) (z .known .now)
 after c =
     let e = c .before .before .before in
     let b = e .before .before .before in
@@ -48,7 +50,7 @@ test-spec =
     let a = z .args in
     let w = z .pre .1 in
     let no = not-true (b .result) (c .if1 .taken) in (
-      unchanged w _ _ (test-is w _ _ (sym no ∙ by-test (c .before)) refl refl refl) (in-time w (a .mode .listing) (a .set) (says-no (b .result) _ (b .ensures .0) no)),
+      unchanged w _ _ (test-is w _ _ (sym no ∙ by-test (c .before)) refl refl refl) (in-time w (a .mode) (a .set) (says-no (b .result) _ (b .ensures .0) no)),
       b .ensures .1,
       known-asked w _ _ (by-test (c .before)) _ (rw no refl) (b .ensures .2),
     ))  -- returns
@@ -77,9 +79,11 @@ test-spec =
       v .ensures .1 _ (b .is-late .ensures .1),
       after (c .before),
     ))  -- returns-3
+    (λ c. search needs)  -- mul-if4
+    (λ c. search needs)  -- add-if4
     (λ c. search needs)  -- same-length-2
     (λ c.
-    let n = c .before .before in
+    let n = c .before in
     let e = n .before .before .before .before in
     let b = e .before .before .before in
     let z = b .before .before .before in
@@ -87,18 +91,18 @@ test-spec =
     let a = z .args in
     let yes = both e in
     let v = n .before .covered in (
-      unchanged w _ _ (test-is w _ _ (sym (yes .0) ∙ by-test b) (sym (yes .1)) (sym (n .if3 .left) ∙ v .ensures .0) (sym (eq-eqb _ _ (c .if4 .taken))))
-          (rw (yes .1) (inr (search needs, covered-no (a .list .now) (a .count) (a .set) (v .ensures .0) (n .if3 .left)))),
+      unchanged w _ _ (test-is w _ _ (sym (yes .0) ∙ by-test b) (sym (yes .1)) (sym (n .if3 .left) ∙ v .ensures .0) (sym (lt-ltb _ _ (c .if4 .taken))))
+          (rw (yes .1) (inr (lt→ltb _ _ (c .if4 .taken), covered-no (a .list .now) (a .count) (a .set) (v .ensures .0) (n .if3 .left)))),
       v .ensures .1 _ (b .is-late .ensures .1),
       after (n .before),
     ))  -- returns-4
-    (λ c κs. (search needs, late (c .before .before .before .before .before .before .before .before)))  -- extract-requires
+    (λ c κs. (search needs, late (c .before .before .before .before .before .before .before)))  -- extract-requires
     (λ c κs. search needs)  -- append-requires
-    (λ c. search needs)  -- add-t19
+    (λ c. search needs)  -- add-t16
     (λ c. search needs)  -- same-length-3
     (λ c.
     let m = c .before .before .before .before in
-    let n = m .before .before .before in
+    let n = m .before .before in
     let e = n .before .before .before .before in
     let b = e .before .before .before in
     let z = b .before .before .before in
@@ -106,14 +110,16 @@ test-spec =
     let w = z .pre .1 in
     let yes = both e in
     let v = n .before .covered in
-    let free : a .count < a .mode .places = search needs in
+    let free : 6 * a .count + 9 ≤ length (a .list .now) = search needs in
     let fits : m .extract .result < 2 ^ 32 = search needs in
     let new = c .before .before .append .ensures in (
       record {
-        value = test-is w _ _ (sym (yes .0) ∙ by-test b) (sym (yes .1)) (sym (n .if3 .left) ∙ v .ensures .0) (sym (ne-eqb _ _ (m .before .if4 .left)));
-        list = list-appended w free fits new;
-        ledger = ledger-append w free fits new (m .extract .ensures) (covered-no (a .list .now) (a .count) (a .set) (v .ensures .0) (n .if3 .left));
-        grows = grows-append w free fits new (m .extract .ensures .inside);
+        value = test-is w _ _ (sym (yes .0) ∙ by-test b) (sym (yes .1)) (sym (n .if3 .left) ∙ v .ensures .0) (sym (le-ltb _ _ free));
+        bytes = list-appended w free fits new;
+        list = record {
+          ledger = ledger-append w free fits new (m .extract .ensures) (covered-no (a .list .now) (a .count) (a .set) (v .ensures .0) (n .if3 .left));
+          grows = grows-append w free fits new (m .extract .ensures .inside);
+        };
         verdict = rw (yes .1) (covered-append w free fits new (m .extract .ensures .inside));
       },
       v .ensures .1 _ (b .is-late .ensures .1),

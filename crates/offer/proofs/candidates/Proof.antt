@@ -11,11 +11,11 @@ use Rattle.mask.proofs.Visit.{Visit, visit-start, visit-member, visit-less, vis
 use Rattle.table.specs.declared.Table.{Table}
 use Rattle.timing.specs.Timing.{tasksIn}
 use Rattle.known.specs.Known.{Knows}
-use Rattle.ledger.specs.Ledger.{Ledger}
 use Rattle.partial.specs.declared.State.{State}
-use Rattle.partial.specs.Partial.{Fits, siteOf}
+use Rattle.partial.specs.Partial.{siteOf}
 use Rattle.partial.proofs.Deciding.{left-at, free-at}
 use Rattle.region.specs.Lends.{Lends}
+use Rattle.region.specs.Begins.{Opens}
 use Rattle.offer.proofs.Choosing.{Choosing, choosing-start, choosing-in, choosing-out, choosing-end}
 use Rattle.offer.proofs.candidates.Statement.{statement}
 use Rattle.offer.proofs.candidates.Tie as tie
@@ -23,8 +23,8 @@ use Rattle.offer.proofs.candidates.Tie as tie
 abbrev Inv-loop : tie.InvT-loop
 Inv-loop timing columns messages sizes p mode list₀ count known₀ site set₀ listed₀ rest₀ list known set listed rest =
     Visit 32 (site .left) rest (λ k. Unit {0}) × (length list ≡ length list₀)
-    × ((t : Table) (s : State) → Lends t sizes timing columns messages → Fits t s → site ≡ siteOf s p → Ledger (tasksIn t) (mode .places) list₀ count
-    → Knows (tasksIn t) known₀ → Choosing t (mode .listing) (mode .places) s p list₀ count set rest list listed × Knows (tasksIn t) known)
+    × ((t : Table) (s : State) → Lends t sizes timing columns messages → Opens t s list₀ count → site ≡ siteOf s p → Knows (tasksIn t) known₀
+    → Choosing t mode s p list₀ count set rest list listed × Knows (tasksIn t) known)
 
 abbrev μ-loop : tie.MeasureT-loop
 μ-loop timing columns messages sizes p mode list₀ count known₀ site set₀ listed₀ rest₀ list known set listed rest = rest
@@ -34,7 +34,7 @@ member : (c : tie.After-lowest Inv-loop μ-loop) → T (has (c .before .before .
 member c = visit-member (c .before .before .loop .inv .0) (search needs) (c .lowest .ensures)
 
 low : (c : tie.After-lowest Inv-loop μ-loop) → c .lowest .result < 24
-low c = let z = c .before .before .before .before .before .before .before .pre in omega (arith, z .0 .2 .open-task _ (member c) .0, z .0 .1 .rules .sound .tasks .most)
+low c = let z = c .before .before .before .before .before .before .before .pre in omega (arith, z .0 .2 .fits .open-task _ (member c) .0, z .0 .1 .rules .sound .tasks .most)
 
 pub candidates-spec : {M : Type 1} → statement M
 candidates-spec =
@@ -50,14 +50,14 @@ candidates-spec =
     (λ c. search needs)  -- element-copy-out-t30
     (λ c.
     let p = c .before .before .before .before .args .p in
-    (visit-start (search needs), refl, λ t s l f e w knows. (rw (left-at s p e) (choosing-start w), knows)))  -- loop-holds
+    (visit-start (search needs), refl, λ t s l w e knows. (rw (left-at s p e) (choosing-start (w .ledger)), knows)))  -- loop-holds
     (λ c κs. search needs)  -- lowest-requires
     (λ c κs.
     let l = c .before .before in
     let i = l .before .before in
     let z = i .before .before .before .before .before .pre in
-    let v = i .loop .inv .2 (z .0 .0) _ (z .0 .1) (z .0 .2) refl (z .0 .3) (z .0 .4) in
-    ((z .0 .0, _, z .0 .1, z .0 .2, refl, v .0 .ledger, v .1), member l, z .1))  -- join-requires
+    let v = i .loop .inv .2 (z .0 .0) _ (z .0 .1) (z .0 .2) refl (z .0 .3) in
+    ((z .0 .0, _, z .0 .1, record { fits = z .0 .2 .fits; ledger = v .0 .list .ledger }, refl, v .1), member l, z .1))  -- join-requires
     (λ c κs. omega (arith, low (c .before .before .before .before .before .before)))  -- insert-requires
     (λ c κs. omega (arith, low (c .before .before .before .before .before .before)))  -- remove-requires
     (λ c.
@@ -70,10 +70,10 @@ candidates-spec =
     let p = i .before .before .before .before .before .args .p in (
       visit-next (i .loop .inv .0) (search needs) (l .lowest .ensures) (c .remove .ensures) tt,
       j .join .kept .1 .1 .1 .1 .1 .1 .1 .1 .0 ∙ i .loop .inv .1,
-      λ t s e f q w knows.
-          let v = i .loop .inv .2 t s e f q w knows in
+      λ t s e w q knows.
+          let v = i .loop .inv .2 t s e w q knows in
           let u = free-at s (l .lowest .result) p q (member l) in
-          let a = j .join .ensures t s e f q (v .0 .ledger) (v .1) in (
+          let a = j .join .ensures t s e (record { fits = w .fits; ledger = v .0 .list .ledger }) q (v .1) in (
             ⊎-elim
                 (λ y. rw (c .remove .ensures, y .2, y .1 .ensures) (choosing-in (v .0) u (j .join .result) (a .0) (y .0 .taken)))
                 (λ y. rw (c .remove .ensures, y .1) (choosing-out (v .0) u (j .join .result) (a .0) (y .0 .left))) (c .before .if1 .came),
@@ -81,4 +81,4 @@ candidates-spec =
           ),
     ))  -- loop-again
     (λ c. search needs)  -- same-length
-    (λ c t l f w knows. let v = c .before .loop .inv .2 t _ l f refl w knows in (choosing-end (v .0) (search needs), v .1)))  -- returns
+    (λ c t l w knows. let v = c .before .loop .inv .2 t _ l w refl knows in (choosing-end (v .0) (search needs), v .1)))  -- returns

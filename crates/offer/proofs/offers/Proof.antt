@@ -4,12 +4,10 @@ use Prim.Native.Nat.{_-_, _≤_}
 use native.Mathlib.Omega.{arith}
 use borrow.Author.Needs.{needs}
 use lib.ListN.{length, length-set}
-use Rattle.table.specs.declared.Table.{Table}
 use Rattle.timing.specs.Timing.{tasksIn}
 use Rattle.known.specs.Known.{Knows}
-use Rattle.ledger.specs.Ledger.{Ledger}
-use Rattle.partial.specs.Partial.{Fits}
-use Rattle.region.specs.Lends.{Lends}
+use Rattle.region.specs.Begins.{Opens}
+use Rattle.region.specs.Given.{Gives}
 use Rattle.offer.proofs.Choosing.{Offering, offering-start, offering-next, offering-end}
 use Rattle.offer.proofs.offers.Statement.{statement}
 use Rattle.offer.proofs.offers.Tie as tie
@@ -17,8 +15,8 @@ use Rattle.offer.proofs.offers.Tie as tie
 abbrev Inv-loop : tie.InvT-loop
 Inv-loop timing columns messages sizes s mode list₀ count known₀ sets₀ listed₀ p₀ list known sets listed p =
     (p ≤ sizes .processors) × (length sets ≡ 8) × (length list ≡ length list₀)
-    × ((t : Table) → Lends t sizes timing columns messages → Fits t s → Ledger (tasksIn t) (mode .places) list₀ count → Knows (tasksIn t) known₀
-    → Offering t (mode .listing) (mode .places) s list₀ count p sets list listed × Knows (tasksIn t) known)
+    × Gives sizes timing columns messages (λ t. Opens t s list₀ count) (λ t. Knows (tasksIn t) known₀)
+    (λ t. Offering t mode s list₀ count p sets list listed × Knows (tasksIn t) known)
 
 abbrev μ-loop : tie.MeasureT-loop
 μ-loop timing columns messages sizes s mode list₀ count known₀ sets₀ listed₀ p₀ list known sets listed p = sizes .processors - p
@@ -29,13 +27,13 @@ offers-spec =
     (tie.spec
     Inv-loop
     μ-loop
-    (λ c. (omega arith, refl, refl, λ t l f w knows. (offering-start w, knows)))  -- loop-holds
+    (λ c. (omega arith, refl, refl, λ t l w knows. (offering-start (w .ledger), knows)))  -- loop-holds
     (λ c κs.
     let b = c .before .before in
     let i = b .before .before in
     let z = i .before .before .pre in
-    let v = i .loop .inv .3 (z .0) (z .1) (z .2) (z .3) (z .4) in
-    ((z .0, z .1, z .2, v .0 .ledger, v .1), b .if1 .taken))  -- candidates-requires
+    let v = i .loop .inv .3 (z .0) (z .1) (z .2) (z .3) in
+    ((z .0, z .1, record { fits = z .2 .fits; ledger = v .0 .list .ledger }, v .1), b .if1 .taken))  -- candidates-requires
     (λ c. let b = c .before .before .before .before .before in let l = b .before .before .before .before .pre .1 .rules in omega (arith, b .if1 .taken, l .processors, l .sound .processors .most))  -- mul-sets
     (λ c. let b = c .before .before .before .before .before in let l = b .before .before .before .before .pre .1 .rules in omega (arith, b .if1 .taken, l .processors, l .sound .processors .most))  -- array-write-sets
     (λ c. search needs)  -- add-p
@@ -47,12 +45,12 @@ offers-spec =
       omega arith,
       simp length-set (i .loop .inv .1),
       x .candidates .kept .1 .1 .1 .1 .1 .1 .1 .0 ∙ i .loop .inv .2,
-      λ t l f w knows.
-          let v = i .loop .inv .3 t l f w knows in
-          let a = x .candidates .ensures t l f (v .0 .ledger) (v .1) in (
+      λ t l w knows.
+          let v = i .loop .inv .3 t l w knows in
+          let a = x .candidates .ensures t l (record { fits = w .fits; ledger = v .0 .list .ledger }) (v .1) in (
             offering-next (v .0) (omega (arith, i .loop .inv .1, b .if1 .taken, l .rules .processors, l .rules .sound .processors .most)) (x .candidates .result) (a .0),
             a .1,
           ),
     ))  -- loop-again
     (λ c. search needs)  -- same-length
-    (λ c t l f w knows. let v = c .before .before .loop .inv .3 t l f w knows in (offering-end (v .0) (omega (arith, l .rules .processors, c .if1 .left)), v .1)))  -- returns
+    (λ c t l w knows. let v = c .before .before .loop .inv .3 t l w knows in (offering-end (v .0) (omega (arith, l .rules .processors, c .if1 .left)), v .1)))  -- returns

@@ -54,8 +54,8 @@ take-below t = and 3 take-kinds.ps (falls 3 take-kinds.ps _<_ μ-take t) take.Pr
 
 abbrev most-Inv-loop : most-lts.InvT-loop
 most-Inv-loop timing columns weights n mode list₀ count known₀ left₀ listed₀ list known left listed =
-    (left₀ .at ≤ left .at) × (length list ≡ length list₀) × Packs n timing (mode .places) left₀ list₀ count × Same left₀ left
-    × Packing n (tasksOf n timing) (mode .listing) (mode .places) (memoryRow columns) (exclusionRow columns) (loadRow columns) weights left₀ list₀ count
+    (left₀ .at ≤ left .at) × (length list ≡ length list₀) × Packs n timing left₀ list₀ count × Same left₀ left
+    × Packing n (tasksOf n timing) mode (memoryRow columns) (exclusionRow columns) (loadRow columns) weights left₀ list₀ count
     (left .candidates) (left .reach) (left .best) list listed
     × Knows (tasksOf n timing) known
 
@@ -188,7 +188,8 @@ pub +most+take-spec : {M : Type 1} → statement M
     let e = c .before .before .before .before .before .before .before .before .before .before in
     let a = e .before .before .before .args in
     let row = a .columns .now in
-    omega (arith, c .before .wide .ensures .0, room-memory (memoryRow row) (exclusionRow row) (loadRow row) (a .pack .on) (a .pack .space) (a .pack .spare) (a .k) (e .before .room .ensures) (not-false (e .before .room .result) (e .if1 .left))))  -- sub-with-k
+    let fits = not-false (e .before .room .result) (e .if1 .left) in
+    omega (arith, c .before .wide .ensures .0, room-memory (memoryRow row) (exclusionRow row) (loadRow row) (a .pack .on) (a .pack .space) (a .pack .spare) (a .k) (e .before .room .ensures) fits))  -- sub-with-k
     (λ c. let p = c .before .before .before .before .before .before .before .before .before .before .before .before .before .pre .1 in omega (arith, p .1, p .0 .limits .few))  -- mul-wide-2
     (λ c. search needs)  -- index-1-wide-2
     (λ c. let p = c .before .before .before .before .before .before .before .before .before .before .before .before .before .pre .1 in omega (arith, p .1, p .0 .limits .few))  -- index-2-wide-2
@@ -197,7 +198,8 @@ pub +most+take-spec : {M : Type 1} → statement M
     let e = c .before .before .before .before .before .before .before .before .before .before .before .before .before in
     let a = e .before .before .before .args in
     let row = a .columns .now in
-    omega (arith, c .before .wide2 .ensures .0, room-load (memoryRow row) (exclusionRow row) (loadRow row) (a .pack .on) (a .pack .space) (a .pack .spare) (a .k) (e .before .room .ensures) (not-false (e .before .room .result) (e .if1 .left))))  -- sub-with-k-2
+    let fits = not-false (e .before .room .result) (e .if1 .left) in
+    omega (arith, c .before .wide2 .ensures .0, room-load (memoryRow row) (exclusionRow row) (loadRow row) (a .pack .on) (a .pack .space) (a .pack .spare) (a .k) (e .before .room .ensures) fits))  -- sub-with-k-2
     (λ c. let p = c .before .before .before .before .before .before .before .before .before .before .before .before .before .before .before .before .pre .1 in omega (arith, p .1, p .0 .limits .few))  -- mul-wide-3
     (λ c. let p = c .before .before .before .before .before .before .before .before .before .before .before .before .before .before .before .before .pre .1 in omega (arith, p .1, p .0 .limits .few))  -- element-copy-out-wide
     (λ c κs. search needs)  -- wide-requires-3

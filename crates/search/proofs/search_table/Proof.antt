@@ -7,8 +7,7 @@ use lib.ListN.{length}
 use borrow.Rule.Slice.PartMut.{midOf}
 use borrow.Author.Needs.{needs}
 use borrow.Author.Tests.{lt-ltb, le-ltb}
-use Rattle.answer.specs.Answer.{places}
-use Rattle.search.proofs.Writing.{Final, final-at, ran-final, ran-head, end-room, head-room, count-room, written}
+use Rattle.search.proofs.Writing.{Final, ran-final, ran-head, end-room, head-room, count-room, written}
 use Rattle.search.proofs.search_table.Statement.{statement}
 use Rattle.search.proofs.search_table.Tie as tie
 
@@ -17,17 +16,17 @@ returns : tie.Need-returns
 returns c = rw (lt-ltb _ _ (c .if1 .taken)) (refl, refl)
 
 -- what the run left of the list
-final : (r : tie.After-run-table) → let b = r .before .before .before .before .before .before in let n = b .args .table .tasks .count in let old = b .args .buffer .now in
-    Final (b .args .table) (places n (length old)) (midOf (n + 2) (length old - (n + 2)) old) (r .run-table .last .1 .0) (r .run-table .result .count) (r .run-table .result .cut)
+final : (r : tie.After-run-table) → let b = r .before .before .before .before .before in let n = b .args .table .tasks .count in let old = b .args .buffer .now in
+    Final (b .args .table) (midOf (n + 2) (length old - (n + 2)) old) (r .run-table .last .1 .0) (r .run-table .result .listed .count) (r .run-table .result .listed .cut)
 final r =
-    let b = r .before .before .before .before .before .before in
-    final-at (b .args .table) (b .args .buffer .now) _ _ _ (r .before .before .places .ensures) (ran-final (b .pre) _ _ _ (r .run-table .result) (r .run-table .ensures))
+    let b = r .before .before .before .before .before in
+    ran-final (b .pre) _ _ (r .run-table .result) (r .run-table .ensures)
 
 -- the count of bytes is no larger than the buffer
-counted : (r : tie.After-run-table) → let b = r .before .before .before .before .before .before in b .args .table .tasks .count + 5 + 6 * r .run-table .result .count ≤ length (b .args .buffer .now)
+counted : (r : tie.After-run-table) → let b = r .before .before .before .before .before in b .args .table .tasks .count + 5 + 6 * r .run-table .result .listed .count ≤ length (b .args .buffer .now)
 counted r =
-    let b = r .before .before .before .before .before .before in
-    count-room (b .args .table) (b .args .buffer .now) _ [] _ _ (r .before .before .before .if1 .left) (final r)
+    let b = r .before .before .before .before .before in
+    count-room (b .args .table) (b .args .buffer .now) _ [] _ _ (r .before .before .if1 .left) (final r)
 
 pub search-table-spec : {M : Type 1} → statement M
 search-table-spec =
@@ -35,7 +34,6 @@ search-table-spec =
     (tie.spec
     (λ c. search needs)  -- add-if1
     returns
-    (λ c κs. search needs)  -- places-requires
     (λ c. search needs)  -- add-run-table
     (λ c. search needs)  -- sub-run-table
     (λ c. search needs)  -- part-run-table-start
@@ -46,21 +44,21 @@ search-table-spec =
     (λ c. search needs)  -- part-put-end-start
     (λ c. search needs)  -- part-put-end-end
     (λ c κs.
-    let r = c .before .before .before in
-    let b = r .before .before .before .before .before .before in
-    omega (arith, end-room (b .args .table) (b .args .buffer .now) _ [] _ _ (r .before .before .before .if1 .left) (final r)))  -- put-end-requires
+    let r = c .before .before .before .before .before in
+    let b = r .before .before .before .before .before in
+    omega (arith, end-room (b .args .table) (b .args .buffer .now) _ [] _ _ (r .before .before .if1 .left) (final r)))  -- put-end-requires
     (λ c κs.
     let e = c .before .before .before .before in
-    let r = e .before .before .before .before in
-    let b = r .before .before .before .before .before .before in
-    (b .pre, ran-head (b .pre) _ _ _ (r .run-table .result) (r .run-table .ensures), head-room (b .args .table) (b .args .buffer .now) _ (e .put-end .last .0) _ _ (r .before .before .before .if1 .left) (final r)))  -- put-head-requires
-    (λ c. search needs)  -- add-t9
-    (λ c. omega (arith, counted (c .before .before .before .before .before .before .before .before .before .before .before .before)))  -- mul-t8
-    (λ c. omega (arith, counted (c .before .before .before .before .before .before .before .before .before .before .before .before)))  -- add-t21
+    let r = e .before .before .before .before .before .before in
+    let b = r .before .before .before .before .before in
+    (b .pre, ran-head (b .pre) _ _ (r .run-table .result) (r .run-table .ensures), head-room (b .args .table) (b .args .buffer .now) _ (e .put-end .last .0) _ _ (r .before .before .if1 .left) (final r)))  -- put-head-requires
+    (λ c. search needs)  -- add-t8
+    (λ c. omega (arith, counted (c .before .before .before .before .before .before .before .before .before .before .before .before .before .before)))  -- mul-t9
+    (λ c. omega (arith, counted (c .before .before .before .before .before .before .before .before .before .before .before .before .before .before)))  -- add-t21
     (λ c. search needs)  -- same-length
     (λ c.
     let h = c .before .before .before in
     let e = h .before .before .before .before .before in
-    let r = e .before .before .before .before in
-    let b = r .before .before .before .before .before .before in
-    rw (le-ltb _ _ (r .before .before .before .if1 .left)) (written (b .args .table) (b .args .buffer .now) _ _ _ _ (r .before .before .before .if1 .left) (final r) _ (e .put-end .ensures) (h .put-head .ensures))))  -- returns-2
+    let r = e .before .before .before .before .before .before in
+    let b = r .before .before .before .before .before in
+    rw (le-ltb _ _ (r .before .before .if1 .left)) (written (b .args .table) (b .args .buffer .now) _ _ _ _ (r .before .before .if1 .left) (final r) _ (e .put-end .ensures) (h .put-head .ensures))))  -- returns-2

@@ -5,13 +5,14 @@ use borrow.Author.Tests.{not-true, not-false}
 use mathlib.Core.Path.{_≡_, refl, _∙_}
 use Prim.Native.Nat.{ℕ, _+_, _*_, _-_, _≤_, _<_}
 use lib.ListN.{length}
-use Rattle.table.specs.declared.Table.{Table}
-use Rattle.region.specs.Lends.{Lends}
 use Rattle.region.specs.Begins.{Begins}
+use Rattle.region.specs.Given.{Gives}
 use Rattle.memo.specs.Memo.{Learnt}
 use Rattle.twin.proofs.Asking.{asks}
 use Rattle.branching.proofs.Open.{open-low}
-use Rattle.seek.proofs.Seeking.{sought-neither, sought-end, bounded-begins, bounded-hopeless, bounded-then, explored-twin, explored-closed, explored-begins, explored-falls, explored-open, Seeking, seeking-start, seeking-begins, seeking-stop, seeking-next, seeking-end}
+use Rattle.seek.proofs.Seeking.{sought-neither, sought-end, bounded-begins, bounded-hopeless, bounded-then}
+use Rattle.seek.proofs.Seeking.{explored-twin, explored-closed, explored-begins, explored-falls, explored-open}
+use Rattle.seek.proofs.Seeking.{Seeking, seeking-start, seeking-begins, seeking-stop, seeking-next, seeking-end}
 use borrow.Fn.Kinds.{In}
 use borrow.Fn.PlainCycle.{Measures, is, falls, and}
 use Rattle.seek.proofs.branch.Reads as branch
@@ -64,8 +65,8 @@ seek-below t = and 5 seek-kinds.ps (falls 5 seek-kinds.ps _<_ μ-seek t) seek.Pr
 abbrev branch-Inv-loop : branch-lts.InvT-loop
 branch-Inv-loop timing columns messages sizes s mode list₀ count notes₀ known₀ memo₀ on k first at₀ i₀ list notes known memo at i =
     (i ≤ sizes .processors) × (length list ≡ length list₀)
-    × ((t : Table) → Lends t sizes timing columns messages → Begins t (mode .listing) (mode .places) s list₀ at₀ → Learnt t columns known₀ memo₀
-    → Seeking t (mode .listing) (mode .places) s k list₀ at₀ first (sizes .processors) i list at × Learnt t columns known memo)
+    × Gives sizes timing columns messages (λ t. Begins t mode s list₀ at₀) (λ t. Learnt t columns known₀ memo₀)
+    (λ t. Seeking t mode s k list₀ at₀ first (sizes .processors) i list at × Learnt t columns known memo)
 
 abbrev branch-μ-loop : branch-lts.MeasureT-loop
 branch-μ-loop timing columns messages sizes s mode list₀ count notes₀ known₀ memo₀ on k first at₀ i₀ list notes known memo at i = sizes .processors - i
@@ -90,7 +91,7 @@ pub +branch+explore+seek-spec : {M : Type 1} → statement M
     (λ c κs.
     let a = c .before .before .before .before .before .pre .1 in
     let b = a .0 .2 in
-    ((a .0 .0, a .0 .1, b .fits, a .0 .3 .knows), a .1, omega (arith, b .ledger .room, b .ledger .long)))  -- pick-requires
+    ((a .0 .0, a .0 .1, b .fits, a .0 .3 .knows), a .1, omega (arith, b .ledger .room)))  -- pick-requires
     (λ c κs.
     let l = c .before .before .before .before .before .before .before .pre .1 .0 .1 in
     omega (arith, l .rules .processors, l .rules .sound .processors .some))  -- offset-requires

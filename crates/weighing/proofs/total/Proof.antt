@@ -6,11 +6,12 @@ use native.Mathlib.Omega.{arith}
 use borrow.Author.Needs.{needs}
 use lib.ListN.{getD}
 use Rattle.rules.proofs.SumLoop.{Summing, summing-start, summing-in, summing-end}
+use Rattle.weighing.specs.Weighing.{heaviest}
 use Rattle.weighing.proofs.total.Statement.{statement}
 use Rattle.weighing.proofs.total.Tie as tie
 
 abbrev Inv-loop : tie.InvT-loop
-Inv-loop m tops sum₀ p₀ sum p = Summing m (λ r. true) (λ r. getD tops r 0) 103079215080 p sum
+Inv-loop m tops sum₀ p₀ sum p = Summing m (λ r. true) (λ r. getD tops r 0) heaviest p sum
 
 abbrev μ-loop : tie.MeasureT-loop
 μ-loop m tops sum₀ p₀ sum p = m - p

@@ -5,15 +5,11 @@ use native.Mathlib.Omega.{arith}
 use borrow.Author.Needs.{needs}
 use lib.ListN.{length, getD, length-set}
 use Rattle.finite.specs.Finite.{sumTo}
-use Rattle.table.specs.declared.Table.{Table}
-use Rattle.timing.specs.Timing.{tasksIn}
 use Rattle.columns.specs.Columns.{weightsIn}
-use Rattle.ledger.specs.Ledger.{Ledger, Bad}
-use Rattle.partial.specs.Partial.{Fits}
-use Rattle.region.specs.Lends.{Lends}
-use Rattle.offer.specs.Offer.{Choices}
+use Rattle.region.specs.Given.{Gives}
 use Rattle.offer.proofs.Choosing.{below-more, open-below, eligible-below}
 use Rattle.memo.specs.Memo.{Learnt}
+use Rattle.weighing.specs.Weighing.{Weighable}
 use Rattle.weighing.proofs.Tightening.{light-of, tops-start, Tightening, tightening-start, tightening-topped, tightening-next, tightening-end}
 use Rattle.weighing.proofs.weigh.Statement.{statement}
 use Rattle.weighing.proofs.weigh.Tie as tie
@@ -21,8 +17,8 @@ use Rattle.weighing.proofs.weigh.Tie as tie
 abbrev Inv-loop : tie.InvT-loop
 Inv-loop timing columns messages row sizes s sets mode list₀ count known₀ memo₀ m need tops₀ sum₀ listed₀ p₀ list known memo tops sum listed p =
     (p ≤ m) × (length tops ≡ 8) × (sum ≡ sumTo m (λ r. getD tops r 0)) × (length list ≡ length list₀)
-    × ((t : Table) → Lends t sizes timing columns messages → Fits t s → Ledger (tasksIn t) (mode .places) list₀ count → Choices t s (Bad (tasksIn t) (mode .listing) list₀ count) sets
-    → Learnt t columns known₀ memo₀ → Tightening t (mode .listing) (mode .places) s (weightsIn columns row) sets list₀ count tops list listed × Learnt t columns known memo)
+    × Gives sizes timing columns messages (λ t. Weighable t mode s sets list₀ count) (λ t. Learnt t columns known₀ memo₀)
+    (λ t. Tightening t mode s (weightsIn columns row) sets list₀ count tops list listed × Learnt t columns known memo)
 
 abbrev μ-loop : tie.MeasureT-loop
 μ-loop timing columns messages row sizes s sets mode list₀ count known₀ memo₀ m need tops₀ sum₀ listed₀ p₀ list known memo tops sum listed p = m - p
@@ -38,7 +34,7 @@ weigh-spec =
     (λ c. search needs)  -- index-1-weight-of
     (λ c κs.
     let z = c .before .before .pre in
-    (below-more _ 24 _ (z .0 .1 .rules .sound .tasks .most) (open-below (z .0 .2)), light-of (z .0 .1 .rules) _ (z .1)))  -- weight-of-requires
+    (below-more _ 24 _ (z .0 .1 .rules .sound .tasks .most) (open-below (z .0 .2 .fits)), light-of (z .0 .1 .rules) _ (z .1)))  -- weight-of-requires
     (λ c. search needs)  -- add-tops-of
     (λ c. search needs)  -- mul-tops-of
     (λ c. search needs)  -- index-1-tops-of
@@ -47,7 +43,7 @@ weigh-spec =
     let l = z .0 .1 .rules in (
       omega (arith, l .processors, l .sound .processors .most),
       light-of l _ (z .1),
-      λ p low. below-more _ 24 _ (l .sound .tasks .most) (eligible-below (z .0 .2) (z .0 .4 p (omega (arith, l .processors)) .eligible)),
+      λ p low. below-more _ 24 _ (l .sound .tasks .most) (eligible-below (z .0 .2 .fits) (z .0 .2 .choices p (omega (arith, l .processors)) .eligible)),
     ))  -- tops-of-requires
     (λ c κs.
     let l = c .before .before .before .before .before .pre .0 .1 .rules in
@@ -57,16 +53,16 @@ weigh-spec =
       c .before .tops-of .ensures .0,
       c .total .ensures,
       refl,
-      λ t l f v o k. (
-        tightening-start v (tops-start (l .rules) f (λ p low. o p low .eligible) (c .before .tops-of .ensures .1) (c .before .tops-of .ensures .2)),
+      λ t l x k. (
+        tightening-start (x .ledger) (tops-start (l .rules) (x .fits) (λ p low. x .choices p low .eligible) (c .before .tops-of .ensures .1) (c .before .tops-of .ensures .2)),
         k,
       ),
     ))  -- loop-holds
     (λ c κs.
     let i = c .before .before .before .before .before in
     let z = i .before .before .before .before .before .before .before .pre in
-    let v = i .loop .inv .4 (z .0 .0) (z .0 .1) (z .0 .2) (z .0 .3) (z .0 .4) (z .0 .5) in
-    ((z .0 .0, z .0 .1, tightening-topped (v .0) (z .0 .2) (z .0 .4), v .1), z .1, c .before .before .before .before .loop-test .taken))  -- tighten-requires
+    let v = i .loop .inv .4 (z .0 .0) (z .0 .1) (z .0 .2) (z .0 .3) in
+    ((z .0 .0, z .0 .1, tightening-topped (v .0) (z .0 .2), v .1), z .1, c .before .before .before .before .loop-test .taken))  -- tighten-requires
     (λ c.
     let i = c .before .before .before .before .before .before .before in
     let l = i .before .before .before .before .before .before .before .before .pre .0 .1 .rules in
@@ -81,10 +77,10 @@ weigh-spec =
     let i = b .before in
     let z = i .before .before .before .before .before .before .before .pre in
     let l = z .0 .1 .rules in
-    let v = i .loop .inv .4 (z .0 .0) (z .0 .1) (z .0 .2) (z .0 .3) (z .0 .4) (z .0 .5) in (
+    let v = i .loop .inv .4 (z .0 .0) (z .0 .1) (z .0 .2) (z .0 .3) in (
       omega (arith, l .processors, l .sound .processors .most),
       tightening-next (v .0) (omega (arith, i .loop .inv .1, b .loop-test .taken, l .processors, l .sound .processors .most)) (x .tighten .result)
-          (x .tighten .ensures (z .0 .0) (z .0 .1) (tightening-topped (v .0) (z .0 .2) (z .0 .4)) (v .1) .0) .holds .small,
+          (x .tighten .ensures (z .0 .0) (z .0 .1) (tightening-topped (v .0) (z .0 .2)) (v .1) .0) .holds .small,
     ))  -- total-requires-2
     (λ c.
     let i = c .before .before .before .before .before .before .before .before in
@@ -99,15 +95,15 @@ weigh-spec =
       simp length-set (i .loop .inv .1),
       c .total2 .ensures,
       x .tighten .kept .1 .1 .1 .1 .1 .1 .1 .1 .1 .1 .0 ∙ i .loop .inv .3,
-      λ t l f w o k.
-          let v = i .loop .inv .4 t l f w o k in
-          let a = x .tighten .ensures t l (tightening-topped (v .0) f o) (v .1) in
+      λ t l w k.
+          let v = i .loop .inv .4 t l w k in
+          let a = x .tighten .ensures t l (tightening-topped (v .0) w) (v .1) in
           (tightening-next (v .0) (omega (arith, i .loop .inv .1, b .loop-test .taken, l .rules .processors, l .rules .sound .processors .most)) (x .tighten .result) (a .0), a .1),
     ))  -- loop-again
     (λ c. search needs)  -- same-length
     (λ c.
     let i = c .before in
     let x = i .before .before .before .before in
-    λ t l f v o k.
-    let a = i .loop .inv .4 t l f v o k in
-    (tightening-end (a .0) (l .rules .sound) f o (rw (← l .rules .processors) (i .loop .inv .2)) (x .weight-of .ensures .1 _ (open-below f)), a .1)))  -- returns
+    λ t l w k.
+    let a = i .loop .inv .4 t l w k in
+    (tightening-end (a .0) (l .rules .sound) w (rw (← l .rules .processors) (i .loop .inv .2)) (x .weight-of .ensures .1 _ (open-below (w .fits))), a .1)))  -- returns

@@ -1,0 +1,14 @@
+-- The form of the search's contracts: they speak of every table whose numbers are lent, with what is known of it.
+use mathlib.Core.List.{List}
+use Prim.Native.Nat.{ℕ}
+use Rattle.table.specs.declared.Table.{Table}
+use Rattle.partial.specs.declared.Sizes.{Sizes}
+use Rattle.region.specs.Lends.{Lends}
+
+-- what is asked: the numbers are those of a table with P, of which K is known
+abbrev pub Given : Sizes → List (List ℕ) → List (List ℕ) → List (List ℕ) → (Table → Type 0) → (Table → Type 0) → Type 0
+Given sizes timing columns links P K = (t : Table) × Lends t sizes timing columns links × P t × K t
+
+-- what is promised: Q of each such table
+abbrev pub Gives : Sizes → List (List ℕ) → List (List ℕ) → List (List ℕ) → (Table → Type 0) → (Table → Type 0) → (Table → Type 0) → Type 0
+Gives sizes timing columns links P K Q = (t : Table) → Lends t sizes timing columns links → P t → K t → Q t
