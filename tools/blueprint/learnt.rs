@@ -1,5 +1,6 @@
 //! The tables that a search fills. Every entry is true by itself, so that one is overwritten by the next, and an entry
-//! of zeros says nothing. They are lent to the search, as memory from the system would cost a quick one much of its time.
+//! of zeros says nothing. They are lent to the search: new memory from the system would cost a quick search half of
+//! its time.
 
 use crate::memo::{self, Entry};
 use crate::steps::Steps;

@@ -39,7 +39,9 @@ const ROOT: usize = TASKS + 1;
 impl Rows {
     pub const ZERO: Rows = Rows([Multipliers { weight: [0; TASKS], price: 0, version: 0 }; ROOT + 1]);
 
-    /// The row above a root with so many open tasks is that of the last root.
+    /// The row above a root with so many open tasks becomes that of the last root. So the first node of a run starts
+    /// from what the decision before came to; in the first decision on a table of fewer than 24 tasks that is nothing,
+    /// and its weighted runs refute nothing.
     pub fn start_from_root(&mut self, open: usize) {
         self.0[open + 1] = self.0[ROOT];
     }
