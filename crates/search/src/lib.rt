@@ -44,7 +44,8 @@ fn search_table(table: Table, buffer: &mut [u8]) -> Answer
     }
     let ran = run::run_table(table, &mut buffer[n + 2..]);
     let listed = ran.listed;
-    answer::put_end(&mut buffer[n + 2..], listed.count, !listed.cut);
+    let cut = listed.cut;
+    answer::put_end(&mut buffer[n + 2..], listed.count, !cut);
     let on = ran.on;
     put_head(table, ran.found, on, buffer);
     Answer::Written(n + 5 + 6 * listed.count)

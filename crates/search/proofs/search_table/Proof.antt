@@ -44,21 +44,21 @@ search-table-spec =
     (λ c. search needs)  -- part-put-end-start
     (λ c. search needs)  -- part-put-end-end
     (λ c κs.
-    let r = c .before .before .before .before .before in
+    let r = c .before .before .before .before in
     let b = r .before .before .before .before .before in
     omega (arith, end-room (b .args .table) (b .args .buffer .now) _ [] _ _ (r .before .before .if1 .left) (final r)))  -- put-end-requires
     (λ c κs.
     let e = c .before .before .before .before in
-    let r = e .before .before .before .before .before .before in
+    let r = e .before .before .before .before .before in
     let b = r .before .before .before .before .before in
     (b .pre, ran-head (b .pre) _ _ (r .run-table .result) (r .run-table .ensures), head-room (b .args .table) (b .args .buffer .now) _ (e .put-end .last .0) _ _ (r .before .before .if1 .left) (final r)))  -- put-head-requires
     (λ c. search needs)  -- add-t8
-    (λ c. omega (arith, counted (c .before .before .before .before .before .before .before .before .before .before .before .before .before .before)))  -- mul-t9
-    (λ c. omega (arith, counted (c .before .before .before .before .before .before .before .before .before .before .before .before .before .before)))  -- add-t21
+    (λ c. omega (arith, counted (c .before .before .before .before .before .before .before .before .before .before .before .before .before)))  -- mul-t9
+    (λ c. omega (arith, counted (c .before .before .before .before .before .before .before .before .before .before .before .before .before)))  -- add-t21
     (λ c. search needs)  -- same-length
     (λ c.
     let h = c .before .before .before in
     let e = h .before .before .before .before .before in
-    let r = e .before .before .before .before .before .before in
+    let r = e .before .before .before .before .before in
     let b = r .before .before .before .before .before in
     rw (le-ltb _ _ (r .before .before .if1 .left)) (written (b .args .table) (b .args .buffer .now) _ _ _ _ (r .before .before .if1 .left) (final r) _ (e .put-end .ensures) (h .put-head .ensures))))  -- returns-2
