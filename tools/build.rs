@@ -1,4 +1,4 @@
-//! Links the tool's static library, `libexport.a`, from the folder that RATTLE_STATICLIB names.
+//! Links the tool's static library, `libplacement.a`, from the folder that RATTLE_STATICLIB names.
 //! Without it only what does not call the tool can be built, such as the unit tests.
 
 fn main() {
@@ -7,6 +7,6 @@ fn main() {
         return;
     };
     println!("cargo:rustc-link-search=native={folder}");
-    println!("cargo:rustc-link-lib=static=export");
-    println!("cargo:rerun-if-changed={folder}/libexport.a");
+    println!("cargo:rustc-link-lib=static=placement");
+    println!("cargo:rerun-if-changed={folder}/libplacement.a");
 }

@@ -9,7 +9,7 @@
 //!   the binary `table`.
 //!
 //! `cargo test --lib` checks these against each other and needs nothing else. The tests in `tests/`
-//! and the benchmark call the tool: RATTLE_STATICLIB names the folder of its `libexport.a`.
+//! and the benchmark call the tool: RATTLE_STATICLIB names the folder of its `libplacement.a`.
 
 pub mod columns;
 pub mod comparison;

@@ -8,7 +8,7 @@ use tools::program::{root, run};
 
 fn library() -> PathBuf {
     PathBuf::from(
-        std::env::var("RATTLE_STATICLIB").expect("RATTLE_STATICLIB names the folder of libexport.a"),
+        std::env::var("RATTLE_STATICLIB").expect("RATTLE_STATICLIB names the folder of libplacement.a"),
     )
 }
 
@@ -23,13 +23,13 @@ fn compiled(compiler: &mut Command, source: &str) -> PathBuf {
 fn of_c(source: &str) -> PathBuf {
     let mut gcc = Command::new("gcc");
     gcc.args(["-std=c11", "-Wall", "-Wextra", "-Werror", "-I"]).arg(root().join("include"));
-    gcc.arg(root().join("examples").join(source)).arg(library().join("libexport.a"));
+    gcc.arg(root().join("examples").join(source)).arg(library().join("libplacement.a"));
     compiled(&mut gcc, source)
 }
 
 fn of_rust(source: &str) -> PathBuf {
     let mut rustc = Command::new("rustc");
-    rustc.args(["--edition", "2024", "-D", "warnings", "-l", "static=export", "-L"]).arg(library());
+    rustc.args(["--edition", "2024", "-D", "warnings", "-l", "static=placement", "-L"]).arg(library());
     compiled(rustc.arg(root().join("examples").join(source)), source)
 }
 

@@ -47,7 +47,7 @@ fn copy_of_the_root(name: &str) -> PathBuf {
     fs::create_dir_all(room.join("target")).expect("a folder");
     fs::create_dir_all(room.join("tools/target")).expect("a folder");
     let library =
-        std::env::var("RATTLE_STATICLIB").expect("RATTLE_STATICLIB names the folder of libexport.a");
+        std::env::var("RATTLE_STATICLIB").expect("RATTLE_STATICLIB names the folder of libplacement.a");
     let tools = Path::new(env!("CARGO_BIN_EXE_table")).parent().expect("its folder");
     let links = [
         (folder(), "target/bin"),

@@ -10,33 +10,33 @@ use lib.Dec.{ltb}
 use Rattle.table.specs.declared.Table.{Table}
 use Rattle.table.specs.Sound.{Sound}
 use Rattle.timing.specs.Timing.{tasksIn}
-use Rattle.columns.specs.Columns.{exclusionsOf, messagesOf}
-use Rattle.ledger.specs.declared.Mode.{Mode}
-use Rattle.ledger.specs.Ledger.{Ledger, quiet}
-use Rattle.ledger.proofs.Growth.{extended-refl, extended-trans}
-use Rattle.ledger.proofs.Verdicts.{bad-grows}
+use Rattle.rows.specs.Rows.{exclusionsOf, messagesOf}
+use Rattle.nogoods.specs.declared.Mode.{Mode}
+use Rattle.nogoods.specs.Nogoods.{Nogoods, quiet}
+use Rattle.nogoods.proofs.Growth.{extended-refl, extended-trans}
+use Rattle.nogoods.proofs.Verdicts.{bad-grows}
 use Rattle.partial.specs.declared.State.{State}
 use Rattle.region.specs.Begins.{Opens}
-use Rattle.offer.specs.declared.Offered.{Offered}
-use Rattle.offer.specs.Offer.{OfferedAs}
-use Rattle.offer.proofs.Choosing.{choice-map}
-use Rattle.offer.proofs.Fairness.{refuted-fair}
-use Rattle.crossing.specs.Crossing.{crossingOf}
-use Rattle.crossing.proofs.Network.{crossing-fits}
-use Rattle.weighing.specs.declared.Bounded.{Bounded}
-use Rattle.weighing.specs.Bound.{BoundedAs}
-use Rattle.weighing.specs.Weighing.{Weighable}
+use Rattle.candidates.specs.declared.Candidates.{Candidates}
+use Rattle.candidates.specs.Candidates.{CandidatesAs}
+use Rattle.candidates.proofs.Choosing.{choice-map}
+use Rattle.candidates.proofs.Fairness.{refuted-fair}
+use Rattle.network_bound.specs.NetworkBound.{crossingOf}
+use Rattle.network_bound.proofs.Network.{crossing-fits}
+use Rattle.capacity_bound.specs.declared.Bounded.{Bounded}
+use Rattle.capacity_bound.specs.Bound.{BoundedAs}
+use Rattle.capacity_bound.specs.CapacityBound.{Weighable}
 
 -- the candidates are there, and stay so while the list grows
-pub offered-weighable : {t : Table} {mode : Mode} {s : State} {old mid : List ℕ} {before : ℕ} → Opens t s old before → (a : Offered) → OfferedAs t mode s old before mid a
+pub candidates-weighable : {t : Table} {mode : Mode} {s : State} {old mid : List ℕ} {before : ℕ} → Opens t s old before → (a : Candidates) → CandidatesAs t mode s old before mid a
     → Weighable t mode s (a .sets) mid (a .count)
-offered-weighable o a u = record { fits = o .fits; ledger = u .list .ledger; choices = u .choices }
+candidates-weighable o a u = record { fits = o .fits; nogoods = u .list .nogoods; choices = u .choices }
 
 pub weighable-then : {t : Table} {mode : Mode} {s : State} {sets old new : List ℕ} {before : ℕ} → Weighable t mode s sets old before → (b : Bounded) → BoundedAs t mode s old before new b
     → Weighable t mode s sets new (b .count)
 weighable-then {t} {mode} w b u = record {
   fits = w .fits;
-  ledger = u .list .ledger;
+  nogoods = u .list .nogoods;
   choices = λ p low. choice-map (λ y. bad-grows (tasksIn t) (mode .listing) y (u .list .grows)) (w .choices p low);
 }
 
@@ -45,17 +45,17 @@ pub bounded-network : {t : Table} {mode : Mode} {s : State} (sets : List ℕ) {l
     → remote ≡ crossingOf (exclusionsOf t) (messagesOf t) (t .messages .count) s sets (t .processors .count)
     → BoundedAs t mode s list count list (record { hopeless = ltb (s .traffic) remote; count = count })
 bounded-network {t} {mode} {s} sets {list} {count} {remote} h w e = record {
-  list = extended-refl (w .ledger);
+  list = extended-refl (w .nogoods);
   answer = λ o. refuted-fair h (mode .listing) list count {s = s} (λ q fair. omega (arith, ltb-true (s .traffic) remote o, crossing-fits sets h (w .fits) (w .choices) fair));
 }
 
 -- a region that is not given up
-pub bounded-not : {t : Table} {mode : Mode} {s : State} {list : List ℕ} {count : ℕ} → Ledger (tasksIn t) list count
+pub bounded-not : {t : Table} {mode : Mode} {s : State} {list : List ℕ} {count : ℕ} → Nogoods (tasksIn t) list count
     → BoundedAs t mode s list count list (record { hopeless = false; count = count })
 bounded-not w = record { list = extended-refl w; answer = λ e. absurd (false≢true e) }
 
 -- after the candidates
-pub bounded-from : {t : Table} {mode : Mode} {s : State} {old mid new : List ℕ} {before : ℕ} (a : Offered) (b : Bounded) → OfferedAs t mode s old before mid a
+pub bounded-from : {t : Table} {mode : Mode} {s : State} {old mid new : List ℕ} {before : ℕ} (a : Candidates) (b : Bounded) → CandidatesAs t mode s old before mid a
     → BoundedAs t mode s mid (a .count) new b → BoundedAs t mode s old before new b
 bounded-from a b u v = record { list = extended-trans (u .list) (v .list); answer = v .answer }
 

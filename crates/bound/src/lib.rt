@@ -2,55 +2,55 @@
 ghost use mathlib.Core.Path.{_≡_};
 ghost use Rattle.region.specs.Begins.{Begins, Opens};
 ghost use Rattle.region.specs.Given.{Given, Gives};
-ghost use Rattle.memo.specs.Memo.{Learnt};
-ghost use Rattle.weighing.specs.Bound.{BoundedAs};
-ghost use Rattle.bound.specs.Due.{isDue, askedNotes, creditAfter, triedNotes, boundNotes};
-use columns::Columns;
-use columns::EXCLUSIONS;
-use columns::Messages;
-use known::Known;
-use ledger::Mode;
-use memo::Memo;
-use notes::CREDIT;
-use notes::Notes;
-use notes::SKIPS;
+ghost use Rattle.bound_cache.specs.BoundCache.{Learnt};
+ghost use Rattle.capacity_bound.specs.Bound.{BoundedAs};
+ghost use Rattle.bound.specs.Due.{isDue, askedHeuristics, creditAfter, triedHeuristics, boundHeuristics};
+use bound_cache::BoundCache;
+use capacity_bound::Bounded;
+use heuristics::CREDIT;
+use heuristics::Heuristics;
+use heuristics::SKIPS;
+use late_cache::LateCache;
+use nogoods::Mode;
 use partial::Sizes;
 use partial::State;
+use rows::EXCLUSIONS;
+use rows::Messages;
+use rows::Rows;
 use schedule::Timing;
-use weighing::Bounded;
 
 // The bound by the network, then by the weights of each row in turn.
 fn try_all<'a>(
     timing: &'a Timing,
-    columns: &'a Columns,
+    rows: &'a Rows,
     messages: &'a Messages,
     sizes: Sizes,
     s: State,
     mode: Mode,
     list: &mut [u8],
     count: usize,
-    known: &mut Known,
-    memo: &mut Memo,
+    lateness: &mut LateCache,
+    bounds: &mut BoundCache,
 ) -> Bounded
-    requires { ⌜ Given sizes (now timing) (now columns) (now messages) (λ t. Opens t s (now list) count) (λ t. Learnt t (now columns) (now known) (now memo)) ⌝ }
-    ensures { λ r. ⌜ Gives sizes (now (timing .entry)) (now (columns .entry)) (now (messages .entry))
-        (λ t. Opens t s (now (list .entry)) count) (λ t. Learnt t (now (columns .entry)) (now (known .entry)) (now (memo .entry)))
-        (λ t. BoundedAs t mode s (now (list .entry)) count (now (list .exit)) r × Learnt t (now (columns .entry)) (now (known .exit)) (now (memo .exit))) ⌝ }
+    requires { ⌜ Given sizes (now timing) (now rows) (now messages) (λ t. Opens t s (now list) count) (λ t. Learnt t (now rows) (now lateness) (now bounds)) ⌝ }
+    ensures { λ r. ⌜ Gives sizes (now (timing .entry)) (now (rows .entry)) (now (messages .entry))
+        (λ t. Opens t s (now (list .entry)) count) (λ t. Learnt t (now (rows .entry)) (now (lateness .entry)) (now (bounds .entry)))
+        (λ t. BoundedAs t mode s (now (list .entry)) count (now (list .exit)) r × Learnt t (now (rows .entry)) (now (lateness .exit)) (now (bounds .exit))) ⌝ }
 {
-    let offered = offer::offers(
+    let candidates = candidates::candidates_of(
         timing,
-        columns,
+        rows,
         messages,
         sizes,
         s,
         mode,
         list,
         count,
-        known,
+        lateness,
     );
-    let sets = offered.sets;
-    let remote = crossing::crossing(
-        &columns[EXCLUSIONS],
+    let sets = candidates.sets;
+    let remote = network_bound::crossing(
+        &rows[EXCLUSIONS],
         messages,
         sizes.messages,
         s,
@@ -58,12 +58,12 @@ fn try_all<'a>(
         sizes.processors,
     );
     let mut hopeless = s.traffic < remote;
-    let mut listed = offered.count;
+    let mut listed = candidates.count;
     let mut row: usize = 0;
     while row < 3 && !hopeless {
-        let bounded = weighing::weigh(
+        let bounded = capacity_bound::weigh(
             timing,
-            columns,
+            rows,
             messages,
             row,
             sizes,
@@ -72,8 +72,8 @@ fn try_all<'a>(
             mode,
             list,
             listed,
-            known,
-            memo,
+            lateness,
+            bounds,
         );
         hopeless = bounded.hopeless;
         listed = bounded.count;
@@ -86,17 +86,17 @@ fn try_all<'a>(
 }
 
 // Whether the bound is tried: with four open tasks or more; where it has not paid of late, every 32nd time.
-fn due(left: u32, notes: &mut Notes) -> bool
-    ensures { λ r. ⌜ (r ≡ isDue left (now (notes .entry))) × (now (notes .exit) ≡ askedNotes left (now (notes .entry))) ⌝ }
+fn due(left: u32, heuristics: &mut Heuristics) -> bool
+    ensures { λ r. ⌜ (r ≡ isDue left (now (heuristics .entry))) × (now (heuristics .exit) ≡ askedHeuristics left (now (heuristics .entry))) ⌝ }
 {
     if u32::count_ones(left) < 4 {
         return false;
     }
-    if notes[CREDIT] != 0 {
+    if heuristics[CREDIT] != 0 {
         return true;
     }
-    let skips = (notes[SKIPS] % 32 + 1) % 32;
-    notes[SKIPS] = skips;
+    let skips = (heuristics[SKIPS] % 32 + 1) % 32;
+    heuristics[SKIPS] = skips;
     skips == 0
 }
 
@@ -117,34 +117,34 @@ fn credit(before: u32, hopeless: bool) -> u32
 }
 
 // A try of the bound is noted.
-fn note(notes: &mut Notes, hopeless: bool)
-    ensures { λ _. ⌜ now (notes .exit) ≡ triedNotes hopeless (now (notes .entry)) ⌝ }
+fn note(heuristics: &mut Heuristics, hopeless: bool)
+    ensures { λ _. ⌜ now (heuristics .exit) ≡ triedHeuristics hopeless (now (heuristics .entry)) ⌝ }
 {
-    notes[CREDIT] = credit(notes[CREDIT], hopeless);
+    heuristics[CREDIT] = credit(heuristics[CREDIT], hopeless);
 }
 
 // A bound on the region below a state: whether it can be given up at once, and how many conflicts are listed then.
 // Where conflicts are listed, it is tried without listing first, and again where that gives the region up.
 pub fn bound<'a>(
     timing: &'a Timing,
-    columns: &'a Columns,
+    rows: &'a Rows,
     messages: &'a Messages,
     sizes: Sizes,
     s: State,
     mode: Mode,
     list: &mut [u8],
     count: usize,
-    notes: &mut Notes,
-    known: &mut Known,
-    memo: &mut Memo,
+    heuristics: &mut Heuristics,
+    lateness: &mut LateCache,
+    bounds: &mut BoundCache,
 ) -> Bounded
-    requires { ⌜ Given sizes (now timing) (now columns) (now messages) (λ t. Begins t mode s (now list) count) (λ t. Learnt t (now columns) (now known) (now memo)) ⌝ }
-    ensures { λ r. ⌜ Gives sizes (now (timing .entry)) (now (columns .entry)) (now (messages .entry))
-        (λ t. Begins t mode s (now (list .entry)) count) (λ t. Learnt t (now (columns .entry)) (now (known .entry)) (now (memo .entry)))
-        (λ t. BoundedAs t mode s (now (list .entry)) count (now (list .exit)) r × Learnt t (now (columns .entry)) (now (known .exit)) (now (memo .exit)))
-        × (now (notes .exit) ≡ boundNotes (s .left) (r .hopeless) (now (notes .entry))) ⌝ }
+    requires { ⌜ Given sizes (now timing) (now rows) (now messages) (λ t. Begins t mode s (now list) count) (λ t. Learnt t (now rows) (now lateness) (now bounds)) ⌝ }
+    ensures { λ r. ⌜ Gives sizes (now (timing .entry)) (now (rows .entry)) (now (messages .entry))
+        (λ t. Begins t mode s (now (list .entry)) count) (λ t. Learnt t (now (rows .entry)) (now (lateness .entry)) (now (bounds .entry)))
+        (λ t. BoundedAs t mode s (now (list .entry)) count (now (list .exit)) r × Learnt t (now (rows .entry)) (now (lateness .exit)) (now (bounds .exit)))
+        × (now (heuristics .exit) ≡ boundHeuristics (s .left) (r .hopeless) (now (heuristics .entry))) ⌝ }
 {
-    if !due(s.left, notes) {
+    if !due(s.left, heuristics) {
         return Bounded {
             hopeless: false,
             count,
@@ -156,32 +156,32 @@ pub fn bound<'a>(
     };
     let first = try_all(
         timing,
-        columns,
+        rows,
         messages,
         sizes,
         s,
         quiet,
         list,
         count,
-        known,
-        memo,
+        lateness,
+        bounds,
     );
     if !(mode.listing && first.hopeless) {
-        note(notes, first.hopeless);
+        note(heuristics, first.hopeless);
         return first;
     }
     let second = try_all(
         timing,
-        columns,
+        rows,
         messages,
         sizes,
         s,
         mode,
         list,
         first.count,
-        known,
-        memo,
+        lateness,
+        bounds,
     );
-    note(notes, second.hopeless);
+    note(heuristics, second.hopeless);
     second
 }

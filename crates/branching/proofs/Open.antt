@@ -10,8 +10,8 @@ use Rattle.partial.specs.declared.Sizes.{Sizes}
 use Rattle.partial.specs.Partial.{Fits}
 use Rattle.region.specs.Lends.{Lends}
 
-module _ {t : Table} {sizes : Sizes} {timing columns messages : List (List ℕ)}
-    (lent : Lends t sizes timing columns messages)
+module _ {t : Table} {sizes : Sizes} {timing rows messages : List (List ℕ)}
+    (lent : Lends t sizes timing rows messages)
     {s : State} (fits : Fits t s) (k : ℕ) (waits : T (has (s .left) k)) where
   pub open-low : k < 24
   open-low = omega (arith, fits .open-task k waits .0, lent .rules .sound .tasks .most)

@@ -5,28 +5,28 @@ ghost use lib.ListN.{length};
 ghost use Rattle.mask.specs.Mask.{has};
 ghost use Rattle.schedule.specs.Arrays.{tasksOf, InLimits};
 ghost use Rattle.timing.specs.Timing.{tasksIn};
-ghost use Rattle.known.specs.Known.{Knows};
+ghost use Rattle.late_cache.specs.LateCache.{LateCache};
 ghost use Rattle.partial.specs.Partial.{Fits};
 ghost use Rattle.region.specs.Given.{Given, Gives};
-use columns::BASE;
-use columns::Columns;
-use columns::Messages;
-use known::Known;
-use ledger::Mode;
-use notes::Notes;
+use heuristics::Heuristics;
+use late_cache::LateCache;
+use nogoods::Mode;
 use numbers::wide;
 use partial::Site;
 use partial::Sizes;
 use partial::State;
+use rows::BASE;
+use rows::Messages;
+use rows::Rows;
 use schedule::Timing;
 
 // The lower, the sooner task k is placed: few choices, which count squared, and a large weight; and a little noise, so that a restart chooses anew.
-fn score(base: u32, choices: u64, k: usize, notes: &mut Notes) -> u64
+fn score(base: u32, choices: u64, k: usize, heuristics: &mut Heuristics) -> u64
     requires { ⌜ (choices ≤ 8) × (k < 24) ⌝ }
 {
-    let weight = wide(base) + wide(notes[k]) + 1;
+    let weight = wide(base) + wide(heuristics[k]) + 1;
     let plain = choices * choices * 67108864 / weight;
-    plain + plain / 1024 * notes::noise(notes) / 10
+    plain + plain / 1024 * heuristics::noise(heuristics) / 10
 }
 
 // Whether the search would pass over a set: it is late; or, with a full list of conflicts, it holds one of them.
@@ -37,21 +37,21 @@ fn passed_over<'a>(
     full: bool,
     list: &[u8],
     count: usize,
-    known: &mut Known,
+    lateness: &mut LateCache,
 ) -> bool
-    requires { ⌜ InLimits tasks (now timing) set × (6 * count ≤ length (now list)) × Knows (tasksOf tasks (now timing)) (now known) ⌝ }
-    ensures { λ _. ⌜ Knows (tasksOf tasks (now (timing .entry))) (now (known .exit)) ⌝ }
+    requires { ⌜ InLimits tasks (now timing) set × (6 * count ≤ length (now list)) × LateCache (tasksOf tasks (now timing)) (now lateness) ⌝ }
+    ensures { λ _. ⌜ LateCache (tasksOf tasks (now (timing .entry))) (now (lateness .exit)) ⌝ }
 {
     if full {
-        return ledger::covered(list, count, set, known);
+        return nogoods::covered(list, count, set, lateness);
     }
-    known::is_late(timing, tasks, set, known)
+    late_cache::is_late(timing, tasks, set, lateness)
 }
 
 // How many processors can take the open task k: the rules allow it, and the search would not pass over the set.
 fn choices<'a>(
     timing: &'a Timing,
-    columns: &'a Columns,
+    rows: &'a Rows,
     messages: &'a Messages,
     sizes: Sizes,
     s: State,
@@ -59,11 +59,11 @@ fn choices<'a>(
     full: bool,
     list: &[u8],
     count: usize,
-    known: &mut Known,
+    lateness: &mut LateCache,
 ) -> u64
-    requires { ⌜ Given sizes (now timing) (now columns) (now messages) (λ t. Fits t s) (λ t. Knows (tasksIn t) (now known)) × T (has (s .left) k) × (6 * count ≤ length (now list)) ⌝ }
-    ensures { λ r. ⌜ (r ≤ 8) × Gives sizes (now (timing .entry)) (now (columns .entry)) (now (messages .entry))
-        (λ t. Fits t s) (λ t. Knows (tasksIn t) (now (known .entry))) (λ t. Knows (tasksIn t) (now (known .exit))) ⌝ }
+    requires { ⌜ Given sizes (now timing) (now rows) (now messages) (λ t. Fits t s) (λ t. LateCache (tasksIn t) (now lateness)) × T (has (s .left) k) × (6 * count ≤ length (now list)) ⌝ }
+    ensures { λ r. ⌜ (r ≤ 8) × Gives sizes (now (timing .entry)) (now (rows .entry)) (now (messages .entry))
+        (λ t. Fits t s) (λ t. LateCache (tasksIn t) (now (lateness .entry))) (λ t. LateCache (tasksIn t) (now (lateness .exit))) ⌝ }
 {
     let mut found: u64 = 0;
     let mut p: usize = 0;
@@ -75,9 +75,9 @@ fn choices<'a>(
             load: s.load[p],
             traffic: s.traffic,
         };
-        if partial::allows(columns, messages, sizes, site, k, p) {
+        if partial::allows(rows, messages, sizes, site, k, p) {
             let set = mask::insert(site.on, k);
-            if !passed_over(timing, sizes.tasks, set, full, list, count, known) {
+            if !passed_over(timing, sizes.tasks, set, full, list, count, lateness) {
                 found += 1;
             }
         }
@@ -89,19 +89,19 @@ fn choices<'a>(
 // An open task: the one with the lowest score. One that no processor can take is answered at once, and blamed.
 pub fn pick<'a>(
     timing: &'a Timing,
-    columns: &'a Columns,
+    rows: &'a Rows,
     messages: &'a Messages,
     sizes: Sizes,
     s: State,
     mode: Mode,
     list: &[u8],
     count: usize,
-    notes: &mut Notes,
-    known: &mut Known,
+    heuristics: &mut Heuristics,
+    lateness: &mut LateCache,
 ) -> usize
-    requires { ⌜ Given sizes (now timing) (now columns) (now messages) (λ t. Fits t s) (λ t. Knows (tasksIn t) (now known)) × (0 < s .left) × (6 * count ≤ length (now list)) ⌝ }
-    ensures { λ r. ⌜ T (has (s .left) r) × Gives sizes (now (timing .entry)) (now (columns .entry)) (now (messages .entry))
-        (λ t. Fits t s) (λ t. Knows (tasksIn t) (now (known .entry))) (λ t. Knows (tasksIn t) (now (known .exit))) ⌝ }
+    requires { ⌜ Given sizes (now timing) (now rows) (now messages) (λ t. Fits t s) (λ t. LateCache (tasksIn t) (now lateness)) × (0 < s .left) × (6 * count ≤ length (now list)) ⌝ }
+    ensures { λ r. ⌜ T (has (s .left) r) × Gives sizes (now (timing .entry)) (now (rows .entry)) (now (messages .entry))
+        (λ t. Fits t s) (λ t. LateCache (tasksIn t) (now (lateness .entry))) (λ t. LateCache (tasksIn t) (now (lateness .exit))) ⌝ }
 {
     let full = mode.listing && list.len() < 6 * count + 9;
     let mut best = mask::lowest(s.left);
@@ -111,7 +111,7 @@ pub fn pick<'a>(
         let k = mask::lowest(rest);
         let found = choices(
             timing,
-            columns,
+            rows,
             messages,
             sizes,
             s,
@@ -119,13 +119,13 @@ pub fn pick<'a>(
             full,
             list,
             count,
-            known,
+            lateness,
         );
         if found == 0 {
-            notes::blame(notes, k);
+            heuristics::blame(heuristics, k);
             return k;
         }
-        let value = score(columns[BASE][k], found, k, notes);
+        let value = score(rows[BASE][k], found, k, heuristics);
         if value < least {
             best = k;
             least = value;

@@ -6,7 +6,7 @@ use native.Mathlib.Omega.{arith}
 use lib.Dec.{T}
 use Rattle.finite.specs.Finite.{someBelow, sumTo, firstFrom, firstBelow}
 use Rattle.mask.specs.Mask.{has, below}
-use Rattle.multiple.specs.Multiple.{lcm, lcmTo}
+use Rattle.lcm.specs.Lcm.{lcm, lcmTo}
 use Rattle.wire.specs.Wire.{little, number, bytes, markAt}
 use Rattle.layout.specs.Format.{kindAt, bytesOf, placeIn}
 use Rattle.verdict.specs.Faults.{verdict, recordVerdict, contentVerdict, hyperperiodTooLarge, messageRepeated, periodsDiffer, priorityUsed, notInFile, badPair, badGroup, badResidence, outOfRange, tooMany, outOfOrder, recordCut, markCut}

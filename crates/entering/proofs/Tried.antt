@@ -14,11 +14,11 @@ use Rattle.rules.specs.Placement.{andTask}
 use Rattle.rules.specs.Sets.{standing}
 use Rattle.timing.specs.Timing.{tasksIn}
 use Rattle.timing.proofs.Limits.{valid-tasks, constrained-tasks}
-use Rattle.ledger.specs.declared.Mode.{Mode}
-use Rattle.ledger.specs.declared.Tested.{Tested}
-use Rattle.ledger.specs.Ledger.{Bad, Clear, Verdict, Noted}
-use Rattle.ledger.proofs.Growth.{extended-refl, extended-map}
-use Rattle.ledger.proofs.Verdicts.{bad-more, clear-grows}
+use Rattle.nogoods.specs.declared.Mode.{Mode}
+use Rattle.nogoods.specs.declared.Tested.{Tested}
+use Rattle.nogoods.specs.Nogoods.{Bad, Clear, Verdict, Noted}
+use Rattle.nogoods.proofs.Growth.{extended-refl, extended-map}
+use Rattle.nogoods.proofs.Verdicts.{bad-more, clear-grows}
 use Rattle.partial.specs.declared.State.{State}
 use Rattle.partial.specs.Partial.{Stepped, StepOf}
 use Rattle.region.specs.Region.{Within, Refuted, Met}
@@ -42,7 +42,7 @@ module _ {t : Table} (h : Sound t) {mode : Mode} {s : State} {old : List ℕ} {c
   -- the rules do not allow it
   pub enter-broken : (allowed : Bool) {next : State} → StepOf t s k p allowed next → not allowed ≡ true → EnteredAs t mode s k p old count old (record { passes = false; next = next; count = count })
   enter-broken allowed {next} f e = record {
-    list = extended-refl (b .ledger);
+    list = extended-refl (b .nogoods);
     answer = refuted-broken t (Bad (tasksIn t) (mode .listing) old count) (andTask (standing (s .on)) k p) (subst (λ (a : Bool). StepOf t s k p a next) (not-true allowed e) f);
   }
 
@@ -65,7 +65,7 @@ module _ {t : Table} (h : Sound t) {mode : Mode} {s : State} {old : List ℕ} {c
 
     answered : (bad : Bool) → Verdict bad (tasksIn t) (mode .listing) new (r .count) (has (getD (next .on) p 0)) → EntersAs (not bad) t mode s k p new (r .count) next
     answered true v = refuted v
-    answered false v = (step, record { fits = step .fits; ledger = noted .list .ledger; clear = λ q. clear v q (ℕ-discrete q p) })
+    answered false v = (step, record { fits = step .fits; nogoods = noted .list .nogoods; clear = λ q. clear v q (ℕ-discrete q p) })
 
     pub enter-tested : EnteredAs t mode s k p old count new (record { passes = not (r .bad); next = next; count = r .count })
     enter-tested = record { list = extended-map met (noted .list); answer = answered (r .bad) (noted .verdict) }

@@ -6,8 +6,8 @@ use Rattle.table.specs.declared.Table.{Table}
 use Rattle.rules.specs.Placement.{andTask}
 use Rattle.rules.specs.Sets.{standing}
 use Rattle.timing.specs.Timing.{tasksIn}
-use Rattle.ledger.specs.declared.Mode.{Mode}
-use Rattle.ledger.specs.Ledger.{Extended, Bad}
+use Rattle.nogoods.specs.declared.Mode.{Mode}
+use Rattle.nogoods.specs.Nogoods.{Extended, Bad}
 use Rattle.partial.specs.declared.State.{State}
 use Rattle.partial.specs.Partial.{Stepped}
 use Rattle.region.specs.Region.{Within, Refuted, Met}

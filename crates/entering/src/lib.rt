@@ -3,16 +3,16 @@ ghost use Prim.Native.Nat.{_<_};
 ghost use lib.Dec.{T};
 ghost use Rattle.mask.specs.Mask.{has};
 ghost use Rattle.timing.specs.Timing.{tasksIn};
-ghost use Rattle.known.specs.Known.{Knows};
+ghost use Rattle.late_cache.specs.LateCache.{LateCache};
 ghost use Rattle.region.specs.Begins.{Begins};
 ghost use Rattle.region.specs.Given.{Given, Gives};
 ghost use Rattle.entering.specs.Entering.{EnteredAs};
-use columns::Columns;
-use columns::Messages;
-use known::Known;
-use ledger::Mode;
+use late_cache::LateCache;
+use nogoods::Mode;
 use partial::Sizes;
 use partial::State;
+use rows::Messages;
+use rows::Rows;
 use schedule::Timing;
 
 // A task on a processor: whether to go on from there, with which state, and how many conflicts are listed then.
@@ -25,7 +25,7 @@ pub struct Entered {
 // The open task k on processor p: tested by the rules, then for lateness.
 pub fn enter<'a>(
     timing: &'a Timing,
-    columns: &'a Columns,
+    rows: &'a Rows,
     messages: &'a Messages,
     sizes: Sizes,
     s: State,
@@ -34,15 +34,15 @@ pub fn enter<'a>(
     mode: Mode,
     list: &mut [u8],
     count: usize,
-    known: &mut Known,
+    lateness: &mut LateCache,
 ) -> Entered
-    requires { ⌜ Given sizes (now timing) (now columns) (now messages) (λ t. Begins t mode s (now list) count) (λ t. Knows (tasksIn t) (now known))
+    requires { ⌜ Given sizes (now timing) (now rows) (now messages) (λ t. Begins t mode s (now list) count) (λ t. LateCache (tasksIn t) (now lateness))
         × T (has (s .left) k) × (p < sizes .processors) ⌝ }
-    ensures { λ r. ⌜ Gives sizes (now (timing .entry)) (now (columns .entry)) (now (messages .entry))
-        (λ t. Begins t mode s (now (list .entry)) count) (λ t. Knows (tasksIn t) (now (known .entry)))
-        (λ t. EnteredAs t mode s k p (now (list .entry)) count (now (list .exit)) r × Knows (tasksIn t) (now (known .exit))) ⌝ }
+    ensures { λ r. ⌜ Gives sizes (now (timing .entry)) (now (rows .entry)) (now (messages .entry))
+        (λ t. Begins t mode s (now (list .entry)) count) (λ t. LateCache (tasksIn t) (now (lateness .entry)))
+        (λ t. EnteredAs t mode s k p (now (list .entry)) count (now (list .exit)) r × LateCache (tasksIn t) (now (lateness .exit))) ⌝ }
 {
-    let step = partial::step(columns, messages, sizes, s, k, p);
+    let step = partial::step(rows, messages, sizes, s, k, p);
     let next = step.next;
     if !step.allowed {
         return Entered {
@@ -51,7 +51,7 @@ pub fn enter<'a>(
             count,
         };
     }
-    let tested = ledger::test(timing, sizes.tasks, next.on[p], mode, list, count, known);
+    let tested = nogoods::test(timing, sizes.tasks, next.on[p], mode, list, count, lateness);
     Entered {
         passes: !tested.bad,
         next,

@@ -8,15 +8,15 @@ use Rattle.schedule.specs.Periodic.{LateSet}
 use Rattle.rules.specs.Placement.{andTask}
 use Rattle.rules.specs.Sets.{standing}
 use Rattle.timing.specs.Timing.{tasksIn}
-use Rattle.ledger.specs.Ledger.{quiet, lists}
-use Rattle.ledger.proofs.Growth.{extended-trans}
+use Rattle.nogoods.specs.Nogoods.{quiet, lists}
+use Rattle.nogoods.proofs.Growth.{extended-trans}
 use Rattle.partial.specs.declared.State.{State}
 use Rattle.region.specs.Region.{Within, Refuted}
 use Rattle.region.specs.Begins.{Begins, Ready}
 use Rattle.entering.specs.declared.Entered.{Entered}
 use Rattle.entering.specs.Entering.{EntersAs, EnteredAs}
-use Rattle.deciding.specs.declared.Listed.{Listed}
-use Rattle.deciding.specs.Deciding.{DecidedAs, CoveringAs}
+use Rattle.restarts.specs.declared.Listed.{Listed}
+use Rattle.restarts.specs.Restarts.{DecidedAs, CoveringAs}
 
 module _ {t : Table} {s : State} {k p : ℕ} {old mid : List ℕ} {before : ℕ} (e : Entered) where
   -- in the way that decides

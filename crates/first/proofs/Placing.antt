@@ -21,8 +21,8 @@ use Rattle.rules.specs.Sets.{standing}
 use Rattle.rules.proofs.Monotone.{keeps-part}
 use Rattle.timing.specs.Timing.{tasksIn}
 use Rattle.timing.proofs.Limits.{valid-tasks, constrained-tasks}
-use Rattle.ledger.specs.Ledger.{Ledger, lists, Covered}
-use Rattle.ledger.proofs.Growth.{extended-refl}
+use Rattle.nogoods.specs.Nogoods.{Nogoods, lists, Covered}
+use Rattle.nogoods.proofs.Growth.{extended-refl}
 use Rattle.partial.specs.declared.State.{State}
 use Rattle.partial.specs.Partial.{Stepped, StepOf}
 use Rattle.goal.specs.Order.{EarlierThan}
@@ -31,11 +31,11 @@ use Rattle.region.specs.Begins.{Begins, Ready}
 use Rattle.rules.proofs.Placed.{placed-is}
 use Rattle.region.proofs.Refuting.{and-there, and-part, and-within}
 use Rattle.region.proofs.Settling.{settled-nothing, settled-covered, settled-cut, settled-passed, first-start, first-pass, first-step, first-end}
-use Rattle.twin.specs.Twin.{Interchangeable}
-use Rattle.twin.proofs.Swap.{swap-refuted}
-use Rattle.deciding.specs.declared.Decided.{Decided}
-use Rattle.deciding.specs.declared.Listed.{Listed}
-use Rattle.deciding.specs.Deciding.{DecidedAs, CutAs, CoveringAs}
+use Rattle.symmetry.specs.Symmetry.{Interchangeable}
+use Rattle.symmetry.proofs.Swap.{swap-refuted}
+use Rattle.restarts.specs.declared.Decided.{Decided}
+use Rattle.restarts.specs.declared.Listed.{Listed}
+use Rattle.restarts.specs.Restarts.{DecidedAs, CutAs, CoveringAs}
 use Rattle.first.specs.declared.Tried.{Tried}
 use Rattle.first.specs.declared.Reached.{Reached}
 use Rattle.first.specs.First.{InTime, Placing, Trying, SettledBy, TriesAs, TriedAs, FirstOf}
@@ -56,7 +56,7 @@ module _ {t : Table} (h : Sound t) {s : State} {k : ℕ} {witness list : List �
   deciding = record { fits = w .fits; in-time = in-time }
 
   pub listing : Begins t lists s list count
-  listing = record { fits = w .fits; ledger = w .ledger; clear = λ p. inl (in-time p) }
+  listing = record { fits = w .fits; nogoods = w .nogoods; clear = λ p. inl (in-time p) }
 
   -- the rules allow a task where a good placement has it
   pub step-taken : {sets : List ℕ} (p : ℕ) → Witness t (InTime t) (andTask (standing (s .on)) k p) sets → (allowed : Bool) {next : State} → StepOf t s k p allowed next → Stepped t s k p next
@@ -64,11 +64,11 @@ module _ {t : Table} (h : Sound t) {s : State} {k : ℕ} {witness list : List �
   step-taken {sets} p g false a = absurd (a (keeps-part t (andTask (standing (s .on)) k p) (standing sets) (g .part) (g .keeps)))
 
   -- the next task
-  pub placing-next : {sets new : List ℕ} {next : State} {p at : ℕ} → k < t .tasks .count → Ledger (tasksIn t) new at → Witness t (InTime t) (andTask (standing (s .on)) k p) sets → Stepped t s k p next
+  pub placing-next : {sets new : List ℕ} {next : State} {p at : ℕ} → k < t .tasks .count → Nogoods (tasksIn t) new at → Witness t (InTime t) (andTask (standing (s .on)) k p) sets → Stepped t s k p next
       → Placing t next (k + 1) sets new at
   placing-next {sets} {next = next} l m g step = record {
     fits = step .fits;
-    ledger = m;
+    nogoods = m;
     good = subst (λ (on : ℕ → ℕ → Bool). Witness t (InTime t) on sets) (sym (step .on)) g;
     upto = omega arith;
     open-from = λ j a b. rw (step .left, has-remove (s .left) k j, ne-eqb j k (λ e. omega (arith, e))) (w .open-from j (omega arith) b);
@@ -89,10 +89,10 @@ module _ {t : Table} {s : State} {k p : ℕ} {witness list : List ℕ} {listed :
       (refl, refl, record { part = and-within (standing (s .on)) k p (standing witness) (g .part) u; whole = g .whole; keeps = g .keeps; clear = g .clear })
 
   -- it is interchangeable with a processor that was passed over
-  pub tried-twin : (T (standing witness k p) → ⊥) → (q : ℕ) → q < p → Interchangeable t s q p
+  pub tried-symmetric : (T (standing witness k p) → ⊥) → (q : ℕ) → q < p → Interchangeable t s q p
       → TriedAs t s k p witness list listed list (record { taken = false; on = witness; listed = listed })
-  tried-twin f q a i = (
-    record { refuted = swapped (LateSet (tasksIn t)) (x .passed .refuted q a); list = extended-refl (x .placing .ledger); mark = mark (listed .cut) (x .passed .covered q a) },
+  tried-symmetric f q a i = (
+    record { refuted = swapped (LateSet (tasksIn t)) (x .passed .refuted q a); list = extended-refl (x .placing .nogoods); mark = mark (listed .cut) (x .passed .covered q a) },
     f,
   )
     where
@@ -117,7 +117,7 @@ module _ {t : Table} {s : State} {k p : ℕ} {witness list : List ℕ} {listed :
         → TriedAs t s k p witness list listed list (record { taken = false; on = witness; listed = listed })
     tried-passed e f c = (
       subst (λ (b : Bool). Settled t (Within (andTask (standing (s .on)) k p)) list (listed .count) b list (listed .count) b) (sym c)
-          (settled-passed (answered false e) (x .placing .ledger)),
+          (settled-passed (answered false e) (x .placing .nogoods)),
       f,
     )
 
@@ -144,7 +144,7 @@ pub record Passing (t : Table) (s : State) (k : ℕ) (witness old : List ℕ) (b
 
 module _ {t : Table} {s : State} {k : ℕ} {witness old : List ℕ} (before : Listed) (w : Placing t s k witness old (before .count)) where
   pub passing-start : Passing t s k witness old before 0 old before
-  passing-start = record { settled = first-start (standing (s .on)) (settled-nothing (w .ledger)); absent = λ r l. absurd (omega arith) }
+  passing-start = record { settled = first-start (standing (s .on)) (settled-nothing (w .nogoods)); absent = λ r l. absurd (omega arith) }
 
   -- all tasks are placed
   pub first-whole : Sound t → t .tasks .count ≤ k → FirstOf t s old before old (record { on = s .on; listed = before })
@@ -155,14 +155,14 @@ module _ {t : Table} {s : State} {k : ℕ} {witness old : List ℕ} (before : Li
       keeps = w .fits .keeps;
       clear = in-time h w;
     };
-    settled = first-end (s .on) (settled-nothing (w .ledger));
+    settled = first-end (s .on) (settled-nothing (w .nogoods));
   }
 
 module _ {t : Table} {s : State} {k p : ℕ} {witness old list : List ℕ} {before at : Listed} (x : Passing t s k witness old before p list at) (w : Placing t s k witness old (before .count)) where
   -- the next processor can be tried
   pub passing-trying : Trying t s k p witness list at
   passing-trying = record {
-    placing = record { fits = w .fits; ledger = x .settled .list .ledger; good = w .good; upto = w .upto; open-from = w .open-from; placed-below = w .placed-below };
+    placing = record { fits = w .fits; nogoods = x .settled .list .nogoods; good = w .good; upto = w .upto; open-from = w .open-from; placed-below = w .placed-below };
     passed = record {
       refuted = λ q l e v u. x .settled .refuted e v (below q l e u);
       covered = λ q l c e v u. mark (at .cut) c (x .settled .mark) e v (below q l e u);
@@ -199,8 +199,8 @@ module _ {t : Table} {s : State} {k p : ℕ} {witness old list : List ℕ} {befo
       settled-so-far : SettledBy t (λ e. Within (standing (s .on)) e × (getD e k 0 < p)) old before new (r .listed)
       settled-so-far = rw (taken .0, taken .1) (x .settled)
 
-      pub taken-ledger : Ledger (tasksIn t) new (r .listed .count)
-      taken-ledger = settled-so-far .list .ledger
+      pub taken-nogoods : Nogoods (tasksIn t) new (r .listed .count)
+      taken-nogoods = settled-so-far .list .nogoods
 
       pub first-taken : {next : State} {last : List ℕ} → k < t .tasks .count → Stepped t s k p next → (f : Reached) → FirstOf t next new (r .listed) last f → FirstOf t s old before last f
       first-taken {next} {last} l step f z = record {

@@ -10,12 +10,12 @@ use Rattle.schedule.specs.Periodic.{LateSet}
 use Rattle.rules.specs.Placement.{andTask}
 use Rattle.rules.specs.Sets.{standing}
 use Rattle.timing.specs.Timing.{tasksIn}
-use Rattle.ledger.specs.Ledger.{Ledger, Covered}
+use Rattle.nogoods.specs.Nogoods.{Nogoods, Covered}
 use Rattle.partial.specs.declared.State.{State}
 use Rattle.partial.specs.Partial.{Fits}
 use Rattle.goal.specs.Order.{EarlierThan}
 use Rattle.region.specs.Region.{Within, Refuted, Witness, Settled}
-use Rattle.deciding.specs.declared.Listed.{Listed}
+use Rattle.restarts.specs.declared.Listed.{Listed}
 use Rattle.first.specs.declared.Tried.{Tried}
 use Rattle.first.specs.declared.Reached.{Reached}
 
@@ -26,7 +26,7 @@ InTime t x = LateSet (tasksIn t) x → ⊥
 -- the tasks below k are placed, and a good placement, `witness`, has them there
 pub record Placing (t : Table) (s : State) (k : ℕ) (witness list : List ℕ) (count : ℕ) : Type 0 where
   pub fits : Fits t s
-  pub ledger : Ledger (tasksIn t) list count
+  pub nogoods : Nogoods (tasksIn t) list count
   pub good : Witness t (InTime t) (standing (s .on)) witness
   pub upto : k ≤ t .tasks .count
   pub open-from : (j : ℕ) → k ≤ j → j < t .tasks .count → T (has (s .left) j)

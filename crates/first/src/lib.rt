@@ -4,22 +4,22 @@ ghost use lib.Dec.{T};
 ghost use Rattle.mask.specs.Mask.{has};
 ghost use Rattle.rules.specs.Placement.{andTask};
 ghost use Rattle.rules.specs.Sets.{standing};
-ghost use Rattle.ledger.specs.Ledger.{lists};
+ghost use Rattle.nogoods.specs.Nogoods.{lists};
 ghost use Rattle.region.specs.Begins.{Begins, Ready};
 ghost use Rattle.region.specs.Given.{Given, Gives};
-ghost use Rattle.deciding.specs.Deciding.{DecidedAs, CoveringAs};
-ghost use Rattle.memo.specs.Memo.{Learnt};
+ghost use Rattle.restarts.specs.Restarts.{DecidedAs, CoveringAs};
+ghost use Rattle.bound_cache.specs.BoundCache.{Learnt};
 ghost use Rattle.first.specs.First.{Placing, Trying, TriedAs, FirstOf};
-use columns::Columns;
-use columns::Messages;
-use deciding::Decided;
-use deciding::Listed;
-use known::Known;
-use ledger::Mode;
-use memo::Memo;
-use notes::Notes;
+use bound_cache::BoundCache;
+use heuristics::Heuristics;
+use late_cache::LateCache;
+use nogoods::Mode;
 use partial::Sizes;
 use partial::State;
+use restarts::Decided;
+use restarts::Listed;
+use rows::Messages;
+use rows::Rows;
 use schedule::Timing;
 
 // A task on a processor: whether it is taken, the sets of a good placement, and what is listed then.
@@ -38,21 +38,21 @@ pub struct Reached {
 // Whether a good placement has task k on processor p.
 fn decide_on<'a>(
     timing: &'a Timing,
-    columns: &'a Columns,
+    rows: &'a Rows,
     messages: &'a Messages,
     sizes: Sizes,
     s: State,
     k: usize,
     p: usize,
-    notes: &mut Notes,
-    known: &mut Known,
-    memo: &mut Memo,
+    heuristics: &mut Heuristics,
+    lateness: &mut LateCache,
+    bounds: &mut BoundCache,
 ) -> Decided
-    requires { ⌜ Given sizes (now timing) (now columns) (now messages) (λ t. Ready t s) (λ t. Learnt t (now columns) (now known) (now memo))
+    requires { ⌜ Given sizes (now timing) (now rows) (now messages) (λ t. Ready t s) (λ t. Learnt t (now rows) (now lateness) (now bounds))
         × T (has (s .left) k) × (p < sizes .processors) ⌝ }
-    ensures { λ r. ⌜ Gives sizes (now (timing .entry)) (now (columns .entry)) (now (messages .entry))
-        (λ t. Ready t s) (λ t. Learnt t (now (columns .entry)) (now (known .entry)) (now (memo .entry)))
-        (λ t. DecidedAs (r .found) t (andTask (standing (s .on)) k p) (r .on) × Learnt t (now (columns .entry)) (now (known .exit)) (now (memo .exit))) ⌝ }
+    ensures { λ r. ⌜ Gives sizes (now (timing .entry)) (now (rows .entry)) (now (messages .entry))
+        (λ t. Ready t s) (λ t. Learnt t (now (rows .entry)) (now (lateness .entry)) (now (bounds .entry)))
+        (λ t. DecidedAs (r .found) t (andTask (standing (s .on)) k p) (r .on) × Learnt t (now (rows .entry)) (now (lateness .exit)) (now (bounds .exit))) ⌝ }
 {
     // Deciding lists nothing: it is lent a list without room.
     let mut no_list = [0u8; 3];
@@ -62,7 +62,7 @@ fn decide_on<'a>(
     };
     let entered = entering::enter(
         timing,
-        columns,
+        rows,
         messages,
         sizes,
         s,
@@ -71,20 +71,29 @@ fn decide_on<'a>(
         mode,
         &mut no_list,
         0,
-        known,
+        lateness,
     );
     let next = entered.next;
     if !entered.passes {
         let on = s.on;
         return Decided { found: false, on };
     }
-    deciding::decide(timing, columns, messages, sizes, next, notes, known, memo)
+    restarts::decide(
+        timing,
+        rows,
+        messages,
+        sizes,
+        next,
+        heuristics,
+        lateness,
+        bounds,
+    )
 }
 
 // The region of task k on processor p, which has no good placement, is passed over: its conflicts are listed.
 fn pass_over<'a>(
     timing: &'a Timing,
-    columns: &'a Columns,
+    rows: &'a Rows,
     messages: &'a Messages,
     sizes: Sizes,
     s: State,
@@ -92,15 +101,15 @@ fn pass_over<'a>(
     p: usize,
     list: &mut [u8],
     count: usize,
-    notes: &mut Notes,
-    known: &mut Known,
-    memo: &mut Memo,
+    heuristics: &mut Heuristics,
+    lateness: &mut LateCache,
+    bounds: &mut BoundCache,
 ) -> Listed
-    requires { ⌜ Given sizes (now timing) (now columns) (now messages) (λ t. Begins t lists s (now list) count) (λ t. Learnt t (now columns) (now known) (now memo))
+    requires { ⌜ Given sizes (now timing) (now rows) (now messages) (λ t. Begins t lists s (now list) count) (λ t. Learnt t (now rows) (now lateness) (now bounds))
         × T (has (s .left) k) × (p < sizes .processors) ⌝ }
-    ensures { λ r. ⌜ Gives sizes (now (timing .entry)) (now (columns .entry)) (now (messages .entry))
-        (λ t. Begins t lists s (now (list .entry)) count) (λ t. Learnt t (now (columns .entry)) (now (known .entry)) (now (memo .entry)))
-        (λ t. CoveringAs t (andTask (standing (s .on)) k p) (now (list .entry)) count (now (list .exit)) r × Learnt t (now (columns .entry)) (now (known .exit)) (now (memo .exit))) ⌝ }
+    ensures { λ r. ⌜ Gives sizes (now (timing .entry)) (now (rows .entry)) (now (messages .entry))
+        (λ t. Begins t lists s (now (list .entry)) count) (λ t. Learnt t (now (rows .entry)) (now (lateness .entry)) (now (bounds .entry)))
+        (λ t. CoveringAs t (andTask (standing (s .on)) k p) (now (list .entry)) count (now (list .exit)) r × Learnt t (now (rows .entry)) (now (lateness .exit)) (now (bounds .exit))) ⌝ }
 {
     let mode = Mode {
         listing: true,
@@ -108,7 +117,7 @@ fn pass_over<'a>(
     };
     let entered = entering::enter(
         timing,
-        columns,
+        rows,
         messages,
         sizes,
         s,
@@ -117,7 +126,7 @@ fn pass_over<'a>(
         mode,
         list,
         count,
-        known,
+        lateness,
     );
     let next = entered.next;
     if !entered.passes {
@@ -126,17 +135,17 @@ fn pass_over<'a>(
             count: entered.count,
         };
     }
-    deciding::cover(
+    restarts::cover(
         timing,
-        columns,
+        rows,
         messages,
         sizes,
         next,
         list,
         entered.count,
-        notes,
-        known,
-        memo,
+        heuristics,
+        lateness,
+        bounds,
     )
 }
 
@@ -145,7 +154,7 @@ fn pass_over<'a>(
 // Where p is interchangeable with a lower processor, which was passed over, that holds of p too.
 fn try_processor<'a>(
     timing: &'a Timing,
-    columns: &'a Columns,
+    rows: &'a Rows,
     messages: &'a Messages,
     sizes: Sizes,
     s: State,
@@ -154,15 +163,15 @@ fn try_processor<'a>(
     witness: [u32; 8],
     list: &mut [u8],
     listed: Listed,
-    notes: &mut Notes,
-    known: &mut Known,
-    memo: &mut Memo,
+    heuristics: &mut Heuristics,
+    lateness: &mut LateCache,
+    bounds: &mut BoundCache,
 ) -> Tried
-    requires { ⌜ Given sizes (now timing) (now columns) (now messages) (λ t. Trying t s k p witness (now list) listed) (λ t. Learnt t (now columns) (now known) (now memo))
+    requires { ⌜ Given sizes (now timing) (now rows) (now messages) (λ t. Trying t s k p witness (now list) listed) (λ t. Learnt t (now rows) (now lateness) (now bounds))
         × (k < sizes .tasks) × (p < sizes .processors) ⌝ }
-    ensures { λ r. ⌜ Gives sizes (now (timing .entry)) (now (columns .entry)) (now (messages .entry))
-        (λ t. Trying t s k p witness (now (list .entry)) listed) (λ t. Learnt t (now (columns .entry)) (now (known .entry)) (now (memo .entry)))
-        (λ t. TriedAs t s k p witness (now (list .entry)) listed (now (list .exit)) r × Learnt t (now (columns .entry)) (now (known .exit)) (now (memo .exit))) ⌝ }
+    ensures { λ r. ⌜ Gives sizes (now (timing .entry)) (now (rows .entry)) (now (messages .entry))
+        (λ t. Trying t s k p witness (now (list .entry)) listed) (λ t. Learnt t (now (rows .entry)) (now (lateness .entry)) (now (bounds .entry)))
+        (λ t. TriedAs t s k p witness (now (list .entry)) listed (now (list .exit)) r × Learnt t (now (rows .entry)) (now (lateness .exit)) (now (bounds .exit))) ⌝ }
 {
     if mask::has(witness[p], k) {
         return Tried {
@@ -171,7 +180,7 @@ fn try_processor<'a>(
             listed,
         };
     }
-    if twin::twin(columns, s, p) < p {
+    if symmetry::representative(rows, s, p) < p {
         return Tried {
             taken: false,
             on: witness,
@@ -180,15 +189,15 @@ fn try_processor<'a>(
     }
     let decided = decide_on(
         timing,
-        columns,
+        rows,
         messages,
         sizes,
         s,
         k,
         p,
-        notes,
-        known,
-        memo,
+        heuristics,
+        lateness,
+        bounds,
     );
     if decided.found {
         let on = decided.on;
@@ -207,7 +216,7 @@ fn try_processor<'a>(
     }
     let after = pass_over(
         timing,
-        columns,
+        rows,
         messages,
         sizes,
         s,
@@ -215,9 +224,9 @@ fn try_processor<'a>(
         p,
         list,
         listed.count,
-        notes,
-        known,
-        memo,
+        heuristics,
+        lateness,
+        bounds,
     );
     Tried {
         taken: false,
@@ -229,7 +238,7 @@ fn try_processor<'a>(
 // The search of document 01: task by task, processors in rising number, calling itself for the next task.
 pub fn first<'a>(
     timing: &'a Timing,
-    columns: &'a Columns,
+    rows: &'a Rows,
     messages: &'a Messages,
     sizes: Sizes,
     s: State,
@@ -237,14 +246,14 @@ pub fn first<'a>(
     witness: [u32; 8],
     list: &mut [u8],
     listed: Listed,
-    notes: &mut Notes,
-    known: &mut Known,
-    memo: &mut Memo,
+    heuristics: &mut Heuristics,
+    lateness: &mut LateCache,
+    bounds: &mut BoundCache,
 ) -> Reached
-    requires { ⌜ Given sizes (now timing) (now columns) (now messages) (λ t. Placing t s k witness (now list) (listed .count)) (λ t. Learnt t (now columns) (now known) (now memo)) ⌝ }
-    ensures { λ r. ⌜ Gives sizes (now (timing .entry)) (now (columns .entry)) (now (messages .entry))
-        (λ t. Placing t s k witness (now (list .entry)) (listed .count)) (λ t. Learnt t (now (columns .entry)) (now (known .entry)) (now (memo .entry)))
-        (λ t. FirstOf t s (now (list .entry)) listed (now (list .exit)) r × Learnt t (now (columns .entry)) (now (known .exit)) (now (memo .exit))) ⌝ }
+    requires { ⌜ Given sizes (now timing) (now rows) (now messages) (λ t. Placing t s k witness (now list) (listed .count)) (λ t. Learnt t (now rows) (now lateness) (now bounds)) ⌝ }
+    ensures { λ r. ⌜ Gives sizes (now (timing .entry)) (now (rows .entry)) (now (messages .entry))
+        (λ t. Placing t s k witness (now (list .entry)) (listed .count)) (λ t. Learnt t (now (rows .entry)) (now (lateness .entry)) (now (bounds .entry)))
+        (λ t. FirstOf t s (now (list .entry)) listed (now (list .exit)) r × Learnt t (now (rows .entry)) (now (lateness .exit)) (now (bounds .exit))) ⌝ }
 {
     let on = s.on;
     if k == sizes.tasks {
@@ -255,7 +264,7 @@ pub fn first<'a>(
     while p < sizes.processors {
         let tried = try_processor(
             timing,
-            columns,
+            rows,
             messages,
             sizes,
             s,
@@ -264,18 +273,18 @@ pub fn first<'a>(
             witness,
             list,
             at,
-            notes,
-            known,
-            memo,
+            heuristics,
+            lateness,
+            bounds,
         );
         at = tried.listed;
         if tried.taken {
-            let step = partial::step(columns, messages, sizes, s, k, p);
+            let step = partial::step(rows, messages, sizes, s, k, p);
             let next = step.next;
             let held = tried.on;
             return first(
                 timing,
-                columns,
+                rows,
                 messages,
                 sizes,
                 next,
@@ -283,9 +292,9 @@ pub fn first<'a>(
                 held,
                 list,
                 at,
-                notes,
-                known,
-                memo,
+                heuristics,
+                lateness,
+                bounds,
             );
         }
         p += 1;

@@ -8,7 +8,7 @@ use Rattle.finite.specs.Finite.{only, sumTo, someBelow}
 use Rattle.mask.specs.Mask.{has, insertOf}
 use Rattle.schedule.specs.Response.{lateTest}
 use Rattle.schedule.specs.Arrays.{tasksOf}
-use Rattle.columns.specs.Columns.{residenceRow, memoryRow, loadRow, exclusionRow}
+use Rattle.rows.specs.Rows.{residenceRow, memoryRow, loadRow, exclusionRow}
 use Rattle.partial.specs.declared.Sizes.{Sizes}
 use Rattle.partial.specs.declared.State.{State}
 
@@ -18,13 +18,13 @@ together row i j = getD row i 0 + getD row j 0
 
 -- both tasks may reside on processor p, and it has the memory and the load for both
 unfoldable pub takesBoth : List (List ℕ) → State → ℕ → ℕ → ℕ → Bool
-takesBoth columns s i j p =
-    (has (getD (residenceRow columns) i 0) p && has (getD (residenceRow columns) j 0) p)
-    && (leb (together (memoryRow columns) i j) (getD (s .memory) p 0) && leb (together (loadRow columns) i j) (getD (s .load) p 0))
+takesBoth rows s i j p =
+    (has (getD (residenceRow rows) i 0) p && has (getD (residenceRow rows) j 0) p)
+    && (leb (together (memoryRow rows) i j) (getD (s .memory) p 0) && leb (together (loadRow rows) i j) (getD (s .load) p 0))
 
 -- none of the processors takes both
 unfoldable pub nowhere : List (List ℕ) → State → ℕ → ℕ → ℕ → Bool
-nowhere columns s processors i j = not (someBelow processors (takesBoth columns s i j))
+nowhere rows s processors i j = not (someBelow processors (takesBoth rows s i j))
 
 -- the set of the two tasks is late
 unfoldable pub latePair : List (List ℕ) → ℕ → ℕ → ℕ → Bool
@@ -32,10 +32,10 @@ latePair timing n i j = lateTest (tasksOf n timing) (has (insertOf (insertOf 0 i
 
 -- two tasks that can never stand on one processor: j is excluded from i, or no processor takes both, or they are late together
 unfoldable pub apart : List (List ℕ) → List (List ℕ) → Sizes → State → ℕ → ℕ → Bool
-apart timing columns sizes s i j =
+apart timing rows sizes s i j =
     not (eqb i j)
-    && (has (getD (exclusionRow columns) i 0) j || (nowhere columns s (sizes .processors) i j || latePair timing (sizes .tasks) i j))
+    && (has (getD (exclusionRow rows) i 0) j || (nowhere rows s (sizes .processors) i j || latePair timing (sizes .tasks) i j))
 
 -- how many tasks can never stand beside task i
 unfoldable pub strangersOf : List (List ℕ) → List (List ℕ) → Sizes → State → ℕ → ℕ
-strangersOf timing columns sizes s i = sumTo (sizes .tasks) (λ j. only (apart timing columns sizes s i j) 1)
+strangersOf timing rows sizes s i = sumTo (sizes .tasks) (λ j. only (apart timing rows sizes s i j) 1)

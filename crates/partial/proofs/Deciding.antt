@@ -1,4 +1,4 @@
--- The tests on the lent columns decide whether the open task k on processor p keeps the rules. Assumes nothing.
+-- The tests on the lent rows decide whether the open task k on processor p keeps the rules. Assumes nothing.
 use mathlib.Core.Path.{_≡_, refl, _∙_, ap}
 use mathlib.Core.Logic.{_≢_, _⊎_, inl, inr}
 use mathlib.Core.Bool.{Bool, true, false, not, _&&_, _||_, cond}
@@ -17,8 +17,8 @@ use Rattle.rules.specs.Placement.{andTask, elsewhere}
 use Rattle.rules.specs.Rules.{traffic, networkBroken, Keeps}
 use Rattle.rules.specs.Sets.{standing, meets}
 use Rattle.rules.proofs.Where.{elsewhere-elim, elsewhere-intro}
-use Rattle.columns.specs.Columns.{besideOf, messagesOf, residenceRow, memoryRow, loadRow, exclusionRow, partnerRow}
-use Rattle.columns.proofs.Laws.{loads-get, neighbours-get}
+use Rattle.rows.specs.Rows.{besideOf, messagesOf, residenceRow, memoryRow, loadRow, exclusionRow, partnerRow}
+use Rattle.rows.proofs.Laws.{loads-get, neighbours-get}
 use Rattle.partial.specs.declared.State.{State}
 use Rattle.partial.specs.declared.Sizes.{Sizes}
 use Rattle.partial.specs.Partial.{Lent, Fits, siteOf}
@@ -76,8 +76,8 @@ others-stand {t} {s} f p j = has-mask n (λ i. not (has here i || has (s .left) 
         go r v d (inl x) = d (f .partial .once j r p v x)
         go r v d (inr x) = f .open-task j x .1 r v
 
-module _ {t : Table} {sizes : Sizes} {columns links : List (List ℕ)} {s : State}
-    (e : Lent t sizes columns links) (f : Fits t s)
+module _ {t : Table} {sizes : Sizes} {rows links : List (List ℕ)} {s : State}
+    (e : Lent t sizes rows links) (f : Fits t s)
     (k p : ℕ) (free : T (has (s .left) k)) (low : p < sizes .processors) where
   task : k < t .tasks .count
   task = f .open-task k free .0
@@ -85,13 +85,13 @@ module _ {t : Table} {sizes : Sizes} {columns links : List (List ℕ)} {s : Stat
   on-table : p < t .processors .count
   on-table = omega (arith, e .processors)
 
-  excluded-at : getD (exclusionRow columns) k 0 ≡ besideOf (t .ex) (t .tasks .count) k
+  excluded-at : getD (exclusionRow rows) k 0 ≡ besideOf (t .ex) (t .tasks .count) k
   excluded-at = rw (e .same-exclusions) (neighbours-get t (e .sound) (t .ex) k task)
 
-  partners-at : getD (partnerRow columns) k 0 ≡ besideOf (t .co) (t .tasks .count) k
+  partners-at : getD (partnerRow rows) k 0 ≡ besideOf (t .co) (t .tasks .count) k
   partners-at = rw (e .same-partners) (neighbours-get t (e .sound) (t .co) k task)
 
-  pub load-at : getD (loadRow columns) k 0 ≡ getD (t .tasks .c) k 0 * t .hyperperiod / getD (t .tasks .t) k 0
+  pub load-at : getD (loadRow rows) k 0 ≡ getD (t .tasks .c) k 0 * t .hyperperiod / getD (t .tasks .t) k 0
   load-at = rw (e .same-loads) (loads-get t (e .sound) k task)
 
   others-at : (j : ℕ) → has (othersThan sizes s p) j ≡ elsewhere (t .processors .count) p (standing (s .on) j)
@@ -110,15 +110,15 @@ module _ {t : Table} {sizes : Sizes} {columns links : List (List ℕ)} {s : Stat
 
   -- ---- rules that are kept
 
-  pub keeps-memory : KeepsWith t s k p → getD (memoryRow columns) k 0 ≤ getD (s .memory) p 0
+  pub keeps-memory : KeepsWith t s k p → getD (memoryRow rows) k 0 ≤ getD (s .memory) p 0
   keeps-memory keeps = rw (e .same-memory)
       (one.memory-needed t (e .sound) (standing (s .on)) (f .keeps) k p task on-table (f .open-task k free .1) (getD (s .memory) p 0) (f .memory p on-table) keeps)
 
-  pub keeps-load : KeepsWith t s k p → getD (loadRow columns) k 0 ≤ getD (s .load) p 0
+  pub keeps-load : KeepsWith t s k p → getD (loadRow rows) k 0 ≤ getD (s .load) p 0
   keeps-load keeps = rw load-at
       (one.utilisation-needed t (e .sound) (standing (s .on)) (f .keeps) k p task on-table (f .open-task k free .1) (getD (s .load) p 0) (f .load p on-table) keeps)
 
-  pub keeps-whole : KeepsWith t s k p → T (meets (getD (partnerRow columns) k 0) (othersThan sizes s p)) → ⊥
+  pub keeps-whole : KeepsWith t s k p → T (meets (getD (partnerRow rows) k 0) (othersThan sizes s p)) → ⊥
   keeps-whole keeps = rw partners-at
       (one.co-residence-needed t (e .sound) (standing (s .on)) (f .keeps) k p task on-table (f .open-task k free .1) (othersThan sizes s p) others-at keeps)
 
@@ -128,21 +128,21 @@ module _ {t : Table} {sizes : Sizes} {columns links : List (List ℕ)} {s : Stat
       omega (arith, traffic-with, f .traffic, one.kept-le (t .capacity * t .hyperperiod) (traffic t (andTask (standing (s .on)) k p)) (keeps .network))
 
   -- what the task itself asks of p
-  pub keeps-suits : KeepsWith t s k p → T (suits columns (siteOf s p) k p)
+  pub keeps-suits : KeepsWith t s k p → T (suits rows (siteOf s p) k p)
   unfolding suits
   keeps-suits keeps =
       let old = f .keeps in
-      and-both (has (getD (residenceRow columns) k 0) p && leb (getD (memoryRow columns) k 0) (getD (s .memory) p 0)) _
-      (and-both (has (getD (residenceRow columns) k 0) p) _
+      and-both (has (getD (residenceRow rows) k 0) p && leb (getD (memoryRow rows) k 0) (getD (s .memory) p 0)) _
+      (and-both (has (getD (residenceRow rows) k 0) p) _
       (rw (e .same-residence) (one.residence-needed t (e .sound) (standing (s .on)) old k p task on-table keeps))
       (le→leb _ _ (keeps-memory keeps)))
-      (and-both (leb (getD (loadRow columns) k 0) (getD (s .load) p 0)) _
+      (and-both (leb (getD (loadRow rows) k 0) (getD (s .load) p 0)) _
       (le→leb _ _ (keeps-load keeps))
-      (not-T (meets (getD (exclusionRow columns) k 0) (getD (s .on) p 0)) (rw excluded-at (one.exclusion-needed t (e .sound) (standing (s .on)) old k p task on-table (getD (s .on) p 0) (λ j. refl) keeps))))
+      (not-T (meets (getD (exclusionRow rows) k 0) (getD (s .on) p 0)) (rw excluded-at (one.exclusion-needed t (e .sound) (standing (s .on)) old k p task on-table (getD (s .on) p 0) (λ j. refl) keeps))))
 
   -- tests that pass
-  pub tests-keep : T (suits columns (siteOf s p) k p)
-      → (T (meets (getD (partnerRow columns) k 0) (othersThan sizes s p)) → ⊥)
+  pub tests-keep : T (suits rows (siteOf s p) k p)
+      → (T (meets (getD (partnerRow rows) k 0) (othersThan sizes s p)) → ⊥)
       → between links (sizes .messages) k (othersThan sizes s p) ≤ s .traffic
       → KeepsWith t s k p
   unfolding suits networkBroken
@@ -151,40 +151,40 @@ module _ {t : Table} {sizes : Sizes} {columns links : List (List ℕ)} {s : Stat
       let sound = e .sound in
       let on = standing (s .on) in
       let new = f .open-task k free .1 in
-      let first = and-left (has (getD (residenceRow columns) k 0) p && leb (getD (memoryRow columns) k 0) (getD (s .memory) p 0)) _ u in
-      let second = and-right (has (getD (residenceRow columns) k 0) p && leb (getD (memoryRow columns) k 0) (getD (s .memory) p 0)) _ u in
+      let first = and-left (has (getD (residenceRow rows) k 0) p && leb (getD (memoryRow rows) k 0) (getD (s .memory) p 0)) _ u in
+      let second = and-right (has (getD (residenceRow rows) k 0) p && leb (getD (memoryRow rows) k 0) (getD (s .memory) p 0)) _ u in
       record {
-        residence = one.residence-kept t sound on old k p task on-table (rw (e .same-residence) at (and-left (has (getD (residenceRow columns) k 0) p) _ first));
+        residence = one.residence-kept t sound on old k p task on-table (rw (e .same-residence) at (and-left (has (getD (residenceRow rows) k 0) p) _ first));
         co-residence = one.co-residence-kept t sound on old k p task on-table new (othersThan sizes s p) others-at (rw partners-at at whole);
         exclusion = one.exclusion-kept t sound on old k p task on-table (getD (s .on) p 0) (λ j. refl)
-            (rw excluded-at at (T-not (meets (getD (exclusionRow columns) k 0) (getD (s .on) p 0)) (and-right (leb (getD (loadRow columns) k 0) (getD (s .load) p 0)) _ second)));
+            (rw excluded-at at (T-not (meets (getD (exclusionRow rows) k 0) (getD (s .on) p 0)) (and-right (leb (getD (loadRow rows) k 0) (getD (s .load) p 0)) _ second)));
         memory = one.memory-kept t sound on old k p task on-table new (getD (s .memory) p 0) (f .memory p on-table)
-            (rw (e .same-memory) at (leb→le (getD (memoryRow columns) k 0) (getD (s .memory) p 0) (and-right (has (getD (residenceRow columns) k 0) p) _ first)));
+            (rw (e .same-memory) at (leb→le (getD (memoryRow rows) k 0) (getD (s .memory) p 0) (and-right (has (getD (residenceRow rows) k 0) p) _ first)));
         utilisation = one.utilisation-kept t sound on old k p task on-table new (getD (s .load) p 0) (f .load p on-table)
-            (rw load-at at (leb→le (getD (loadRow columns) k 0) (getD (s .load) p 0) (and-left (leb (getD (loadRow columns) k 0) (getD (s .load) p 0)) _ second)));
+            (rw load-at at (leb→le (getD (loadRow rows) k 0) (getD (s .load) p 0) (and-left (leb (getD (loadRow rows) k 0) (getD (s .load) p 0)) _ second)));
         network = one.le-kept (t .capacity * t .hyperperiod) (traffic t (andTask on k p)) (omega (arith, traffic-with, f .traffic));
       }
 
   -- ---- so the trial is right
 
-  pub trial-right : let r = trialOf columns links sizes (siteOf s p) k p in TrialOf t s k p (r .allowed) (r .added)
+  pub trial-right : let r = trialOf rows links sizes (siteOf s p) k p in TrialOf t s k p (r .allowed) (r .added)
   unfolding trialOf
-  trial-right = go (suits columns (siteOf s p) k p) (meets (getD (partnerRow columns) k 0) (othersThan sizes s p)) refl refl
+  trial-right = go (suits rows (siteOf s p) k p) (meets (getD (partnerRow rows) k 0) (othersThan sizes s p)) refl refl
     where
       added : ℕ
       added = between links (sizes .messages) k (othersThan sizes s p)
 
-      network : T (suits columns (siteOf s p) k p) → (T (meets (getD (partnerRow columns) k 0) (othersThan sizes s p)) → ⊥) → (x : Bool) → leb added (s .traffic) ≡ x → TrialOf t s k p x added
+      network : T (suits rows (siteOf s p) k p) → (T (meets (getD (partnerRow rows) k 0) (othersThan sizes s p)) → ⊥) → (x : Bool) → leb added (s .traffic) ≡ x → TrialOf t s k p x added
       network own whole true q = record { keeps = tests-keep own whole (leb-true added (s .traffic) q); traffic = traffic-with }
       network own whole false q = λ keeps. omega (arith, leb-false added (s .traffic) q, keeps-carries keeps)
 
-      go : (own parted : Bool) → suits columns (siteOf s p) k p ≡ own → meets (getD (partnerRow columns) k 0) (othersThan sizes s p) ≡ parted
+      go : (own parted : Bool) → suits rows (siteOf s p) k p ≡ own → meets (getD (partnerRow rows) k 0) (othersThan sizes s p) ≡ parted
           → let r : Trial = cond (own && not parted) (record { allowed = leb added (s .traffic); added = added }) (record { allowed = false; added = 0 }) in TrialOf t s k p (r .allowed) (r .added)
       go false parted e f = λ keeps. rw e at (keeps-suits keeps)
       go true true e f = λ keeps. keeps-whole keeps (rw f tt)
       go true false e f = network (rw e tt) (λ u. rw f at u) (leb added (s .traffic)) refl
 
-  -- ---- what the columns and sizes are below
+  -- ---- what the rows and sizes are below
 
   pub bounds : (k < 24) × (p < 8) × (sizes .tasks ≤ 24)
   bounds =

@@ -6,15 +6,15 @@ use Prim.Native.Nat.{ℕ, _+_, _<_}
 use native.Mathlib.Omega.{arith}
 use lib.ListN.{getD}
 use Rattle.rules.proofs.SumLoop.{Summing, summing-in, summing-out}
-use Rattle.columns.specs.Columns.{senderRow, receiverRow, amountRow}
-use Rattle.columns.proofs.Laws.{amounts-bound}
+use Rattle.rows.specs.Rows.{senderRow, receiverRow, amountRow}
+use Rattle.rows.proofs.Laws.{amounts-bound}
 use Rattle.table.specs.declared.Table.{Table}
 use Rattle.partial.specs.declared.Sizes.{Sizes}
 use Rattle.partial.specs.Partial.{Lent}
 use Rattle.partial.specs.Tests.{SmallMessages}
 
 -- the messages of the table
-pub small-messages : {t : Table} {sizes : Sizes} {columns links : List (List ℕ)} → Lent t sizes columns links → SmallMessages links (sizes .messages)
+pub small-messages : {t : Table} {sizes : Sizes} {rows links : List (List ℕ)} → Lent t sizes rows links → SmallMessages links (sizes .messages)
 small-messages {t} e =
     let sound = e .sound in
     record {

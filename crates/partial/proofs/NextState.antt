@@ -17,7 +17,7 @@ use Rattle.rules.specs.Placement.{andTask}
 use Rattle.rules.specs.Rules.{memoryOn, loadOn, traffic, Keeps}
 use Rattle.rules.specs.Sets.{standing}
 use Rattle.rules.proofs.Step.{step-memory, step-memory-other, step-load, step-load-other}
-use Rattle.columns.specs.Columns.{memoryRow, loadRow}
+use Rattle.rows.specs.Rows.{memoryRow, loadRow}
 use Rattle.partial.specs.declared.State.{State}
 use Rattle.partial.specs.declared.Sizes.{Sizes}
 use Rattle.partial.specs.Partial.{Lent, Partial, Fits, Stepped, StepOf}
@@ -139,22 +139,22 @@ module _ {t : Table} {s : State} (f : Fits t s) (k p : ℕ) (free : T (has (s .l
       e : standing (r .on) ≡ andTask (standing (s .on)) k p
       e = standing-insert (s .on) k p (omega (arith, f .partial .long))
 
--- ---- from the answer of a trial, on lent columns
+-- ---- from the answer of a trial, on lent rows
 
-module _ {t : Table} {sizes : Sizes} {columns links : List (List ℕ)} {s : State}
-    (e : Lent t sizes columns links) (f : Fits t s)
+module _ {t : Table} {sizes : Sizes} {rows links : List (List ℕ)} {s : State}
+    (e : Lent t sizes rows links) (f : Fits t s)
     (k p : ℕ) (free : T (has (s .left) k)) (low : p < sizes .processors) where
-  enough : {added : ℕ} → Tried t s k p added → Enough s p (getD (memoryRow columns) k 0) (getD (loadRow columns) k 0) added
+  enough : {added : ℕ} → Tried t s k p added → Enough s p (getD (memoryRow rows) k 0) (getD (loadRow rows) k 0) added
   enough w = record {
     enough-memory = keeps-memory e f k p free low (w .keeps);
     enough-load = keeps-load e f k p free low (w .keeps);
     enough-traffic = omega (arith, traffic-with e f k p free low, keeps-carries e f k p free low (w .keeps), w .traffic);
   }
 
-  pub trial-enough : (allowed : Bool) (added : ℕ) → TrialOf t s k p allowed added → T allowed → Enough s p (getD (memoryRow columns) k 0) (getD (loadRow columns) k 0) added
+  pub trial-enough : (allowed : Bool) (added : ℕ) → TrialOf t s k p allowed added → T allowed → Enough s p (getD (memoryRow rows) k 0) (getD (loadRow rows) k 0) added
   trial-enough true added w u = enough w
   trial-enough false added w u = absurd u
 
-  pub trial-step : (allowed : Bool) (added : ℕ) → TrialOf t s k p allowed added → StepOf t s k p allowed (cond allowed (withTask s k p (getD (memoryRow columns) k 0) (getD (loadRow columns) k 0) added) s)
+  pub trial-step : (allowed : Bool) (added : ℕ) → TrialOf t s k p allowed added → StepOf t s k p allowed (cond allowed (withTask s k p (getD (memoryRow rows) k 0) (getD (loadRow rows) k 0) added) s)
   trial-step true added w = stepped f k p free (omega (arith, e .processors)) (e .sound .processors .most) (rw (e .same-memory) refl) (load-at e f k p free low) (enough w) w
   trial-step false added w = w

@@ -20,8 +20,8 @@ use Rattle.rules.specs.Rules.{residenceBroken, coResidenceBroken, exclusionBrok
 use Rattle.rules.specs.Sets.{meets}
 use Rattle.rules.proofs.Where.{differ, different, elsewhere-elim, elsewhere-intro, apart-elim, apart-intro, together-elim, together-intro, pair-elim, pair-intro}
 use Rattle.rules.proofs.Step.{step-memory, step-memory-other, step-load, step-load-other, step-traffic}
-use Rattle.columns.specs.Columns.{amountsOf, besideOf, messagesOf}
-use Rattle.columns.proofs.Laws.{beside-in, beside-out, beside-below}
+use Rattle.rows.specs.Rows.{amountsOf, besideOf, messagesOf}
+use Rattle.rows.proofs.Laws.{beside-in, beside-out, beside-below}
 use Rattle.partial.specs.Tests.{joins, between}
 use Rattle.partial.proofs.MaskSets.{meets-elim, meets-intro}
 

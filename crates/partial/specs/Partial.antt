@@ -11,23 +11,23 @@ use Rattle.table.specs.Sound.{Sound}
 use Rattle.rules.specs.Placement.{andTask}
 use Rattle.rules.specs.Rules.{Keeps, memoryOn, loadOn, traffic}
 use Rattle.rules.specs.Sets.{standing}
-use Rattle.columns.specs.Columns.{loadsOf, amountsOf, exclusionsOf, partnersOf, residenceRow, memoryRow, loadRow, exclusionRow, partnerRow, weightsIn, senderRow, receiverRow, amountRow}
+use Rattle.rows.specs.Rows.{loadsOf, amountsOf, exclusionsOf, partnersOf, residenceRow, memoryRow, loadRow, exclusionRow, partnerRow, weightsIn, senderRow, receiverRow, amountRow}
 use Rattle.partial.specs.declared.State.{State}
 use Rattle.partial.specs.declared.Sizes.{Sizes}
 use Rattle.partial.specs.declared.Site.{Site}
 
--- the table whose columns are lent to the search
-pub record Lent (t : Table) (sizes : Sizes) (columns links : List (List ℕ)) : Type 0 where
+-- the table whose rows are lent to the search
+pub record Lent (t : Table) (sizes : Sizes) (rows links : List (List ℕ)) : Type 0 where
   pub sound : Sound t
   pub tasks : sizes .tasks ≡ t .tasks .count
   pub processors : sizes .processors ≡ t .processors .count
   pub messages : sizes .messages ≡ t .messages .count
-  pub same-residence : residenceRow columns ≡ t .tasks .residence
-  pub same-memory : memoryRow columns ≡ t .tasks .memory
-  pub same-loads : loadRow columns ≡ loadsOf t
-  pub same-exclusions : exclusionRow columns ≡ exclusionsOf t
-  pub same-partners : partnerRow columns ≡ partnersOf t
-  pub light : (k : ℕ) → getD (weightsIn columns 2) k 0 < 4294967296
+  pub same-residence : residenceRow rows ≡ t .tasks .residence
+  pub same-memory : memoryRow rows ≡ t .tasks .memory
+  pub same-loads : loadRow rows ≡ loadsOf t
+  pub same-exclusions : exclusionRow rows ≡ exclusionsOf t
+  pub same-partners : partnerRow rows ≡ partnersOf t
+  pub light : (k : ℕ) → getD (weightsIn rows 2) k 0 < 4294967296
   pub same-sender : senderRow links ≡ t .messages .sender
   pub same-receiver : receiverRow links ≡ t .messages .receiver
   pub same-amounts : amountRow links ≡ amountsOf t

@@ -1,4 +1,4 @@
--- What the code tests before it puts task k on processor p, from the lent columns and masks alone.
+-- What the code tests before it puts task k on processor p, from the lent rows and masks alone.
 use mathlib.Core.Bool.{Bool, true, false, not, _&&_, _||_, cond}
 use mathlib.Core.List.{List}
 use mathlib.Core.Path.{_≡_}
@@ -11,7 +11,7 @@ use Rattle.table.specs.declared.Table.{Table}
 use Rattle.rules.specs.Placement.{andTask}
 use Rattle.rules.specs.Rules.{Keeps, traffic}
 use Rattle.rules.specs.Sets.{standing, meets}
-use Rattle.columns.specs.Columns.{residenceRow, memoryRow, loadRow, exclusionRow, partnerRow, senderRow, receiverRow, amountRow}
+use Rattle.rows.specs.Rows.{residenceRow, memoryRow, loadRow, exclusionRow, partnerRow, senderRow, receiverRow, amountRow}
 use Rattle.partial.specs.declared.State.{State}
 use Rattle.partial.specs.declared.Sizes.{Sizes}
 use Rattle.partial.specs.declared.Site.{Site}
@@ -25,9 +25,9 @@ neither n a b = maskOf n (λ j. not (has b j || has a j))
 
 -- the task's processor, its memory and its load fit what p has left, and no task on p is excluded from it
 unfoldable pub suits : List (List ℕ) → Site → ℕ → ℕ → Bool
-suits columns site k p =
-    (has (getD (residenceRow columns) k 0) p && leb (getD (memoryRow columns) k 0) (site .memory))
-    && (leb (getD (loadRow columns) k 0) (site .load) && not (meets (getD (exclusionRow columns) k 0) (site .on)))
+suits rows site k p =
+    (has (getD (residenceRow rows) k 0) p && leb (getD (memoryRow rows) k 0) (site .memory))
+    && (leb (getD (loadRow rows) k 0) (site .load) && not (meets (getD (exclusionRow rows) k 0) (site .on)))
 
 -- a message goes between task k and one of the others
 abbrev pub joins : ℕ → ℕ → ℕ → ℕ → Bool
@@ -40,10 +40,10 @@ between links count k others = sumTo count (λ j. only (joins k others (getD (se
 -- the trial of task k on processor p: allowed where the processor suits it, none of its partners stands on another, and the network carries what it adds.
 -- What it adds is not asked for where one of the first two fails.
 unfoldable pub trialOf : List (List ℕ) → List (List ℕ) → Sizes → Site → ℕ → ℕ → Trial
-trialOf columns links sizes site k p =
+trialOf rows links sizes site k p =
     let others = neither (sizes .tasks) (site .left) (site .on) in
     let added = between links (sizes .messages) k others in
-    cond (suits columns site k p && not (meets (getD (partnerRow columns) k 0) others))
+    cond (suits rows site k p && not (meets (getD (partnerRow rows) k 0) others))
     (record { allowed = leb added (site .traffic); added = added })
     (record { allowed = false; added = 0 })
 
@@ -85,4 +85,4 @@ stepAfter s k p memory load trial = record { allowed = trial .allowed; next = co
 
 -- the step of task k to processor p
 abbrev pub stepOf : List (List ℕ) → List (List ℕ) → Sizes → State → ℕ → ℕ → Stepping
-stepOf columns links sizes s k p = stepAfter s k p (getD (memoryRow columns) k 0) (getD (loadRow columns) k 0) (trialOf columns links sizes (siteOf s p) k p)
+stepOf rows links sizes s k p = stepAfter s k p (getD (memoryRow rows) k 0) (getD (loadRow rows) k 0) (trialOf rows links sizes (siteOf s p) k p)

@@ -13,17 +13,17 @@ ghost use Rattle.partial.specs.declared.State.{State};
 ghost use Rattle.partial.specs.Partial.{Lent, siteOf, Fits, StepOf};
 ghost use Rattle.partial.specs.Start.{startOf};
 ghost use Rattle.partial.specs.Tests.{neither, suits, joins, between, SmallMessages, trialOf, Enough, stepAfter, stepOf};
-use columns::AMOUNT;
-use columns::Columns;
-use columns::EXCLUSIONS;
-use columns::LOAD;
-use columns::MEMORY;
-use columns::Messages;
-use columns::PARTNERS;
-use columns::RECEIVER;
-use columns::RESIDENCE;
-use columns::SENDER;
 use numbers::wide;
+use rows::AMOUNT;
+use rows::EXCLUSIONS;
+use rows::LOAD;
+use rows::MEMORY;
+use rows::Messages;
+use rows::PARTNERS;
+use rows::RECEIVER;
+use rows::RESIDENCE;
+use rows::Rows;
+use rows::SENDER;
 use table::Table;
 
 // How many there are of each.
@@ -86,20 +86,20 @@ fn neither(n: usize, a: u32, b: u32) -> u32
 }
 
 // Whether processor p is one of task k's, has its memory and load left, and has no task that may not stand beside it.
-fn suits(columns: &Columns, site: Site, k: usize, p: usize) -> bool
+fn suits(rows: &Rows, site: Site, k: usize, p: usize) -> bool
     requires { ⌜ (k < 24) × (p < 32) ⌝ }
-    ensures { λ r. ⌜ r ≡ suits (now (columns .entry)) site k p ⌝ }
+    ensures { λ r. ⌜ r ≡ suits (now (rows .entry)) site k p ⌝ }
 {
-    if !mask::has(columns[RESIDENCE][k], p) {
+    if !mask::has(rows[RESIDENCE][k], p) {
         return false;
     }
-    if site.memory < wide(columns[MEMORY][k]) {
+    if site.memory < wide(rows[MEMORY][k]) {
         return false;
     }
-    if site.load < wide(columns[LOAD][k]) {
+    if site.load < wide(rows[LOAD][k]) {
         return false;
     }
-    columns[EXCLUSIONS][k] & site.on == 0
+    rows[EXCLUSIONS][k] & site.on == 0
 }
 
 // Whether a message goes between task k and one of the others.
@@ -149,22 +149,22 @@ const REFUSED: Trial = Trial {
 
 // The open task k on processor p: the cheap tests first.
 fn attempt<'a>(
-    columns: &'a Columns,
+    rows: &'a Rows,
     messages: &'a Messages,
     sizes: Sizes,
     site: Site,
     k: usize,
     p: usize,
 ) -> Trial
-    requires { ⌜ ((t : Table) × (s : State) × Lent t sizes (now columns) (now messages) × Fits t s × (site ≡ siteOf s p))
+    requires { ⌜ ((t : Table) × (s : State) × Lent t sizes (now rows) (now messages) × Fits t s × (site ≡ siteOf s p))
         × T (has (site .left) k) × (p < sizes .processors) ⌝ }
-    ensures { λ r. ⌜ r ≡ trialOf (now (columns .entry)) (now (messages .entry)) sizes site k p ⌝ }
+    ensures { λ r. ⌜ r ≡ trialOf (now (rows .entry)) (now (messages .entry)) sizes site k p ⌝ }
 {
-    if !suits(columns, site, k, p) {
+    if !suits(rows, site, k, p) {
         return REFUSED;
     }
     let others = neither(sizes.tasks, site.left, site.on);
-    if columns[PARTNERS][k] & others != 0 {
+    if rows[PARTNERS][k] & others != 0 {
         return REFUSED;
     }
     let added = between(messages, sizes.messages, k, others);
@@ -176,19 +176,19 @@ fn attempt<'a>(
 
 // Whether the open task k on processor p keeps the rules.
 pub fn allows<'a>(
-    columns: &'a Columns,
+    rows: &'a Rows,
     messages: &'a Messages,
     sizes: Sizes,
     site: Site,
     k: usize,
     p: usize,
 ) -> bool
-    requires { ⌜ ((t : Table) × (s : State) × Lent t sizes (now columns) (now messages) × Fits t s × (site ≡ siteOf s p))
+    requires { ⌜ ((t : Table) × (s : State) × Lent t sizes (now rows) (now messages) × Fits t s × (site ≡ siteOf s p))
         × T (has (site .left) k) × (p < sizes .processors) ⌝ }
-    ensures { λ r. ⌜ (r ≡ trialOf (now (columns .entry)) (now (messages .entry)) sizes site k p .allowed)
-        × ((t : Table) (s : State) → Lent t sizes (now (columns .entry)) (now (messages .entry)) → Fits t s → site ≡ siteOf s p → Says r (Keeps t (andTask (standing (s .on)) k p))) ⌝ }
+    ensures { λ r. ⌜ (r ≡ trialOf (now (rows .entry)) (now (messages .entry)) sizes site k p .allowed)
+        × ((t : Table) (s : State) → Lent t sizes (now (rows .entry)) (now (messages .entry)) → Fits t s → site ≡ siteOf s p → Says r (Keeps t (andTask (standing (s .on)) k p))) ⌝ }
 {
-    let trial = attempt(columns, messages, sizes, site, k, p);
+    let trial = attempt(rows, messages, sizes, site, k, p);
     trial.allowed
 }
 
@@ -223,17 +223,17 @@ fn follow(s: State, k: usize, p: usize, memory: u32, load: u32, trial: Trial) ->
 
 // The open task k put on processor p.
 pub fn step<'a>(
-    columns: &'a Columns,
+    rows: &'a Rows,
     messages: &'a Messages,
     sizes: Sizes,
     s: State,
     k: usize,
     p: usize,
 ) -> Stepping
-    requires { ⌜ ((t : Table) × Lent t sizes (now columns) (now messages) × Fits t s)
+    requires { ⌜ ((t : Table) × Lent t sizes (now rows) (now messages) × Fits t s)
         × T (has (s .left) k) × (p < sizes .processors) ⌝ }
-    ensures { λ r. ⌜ (r ≡ stepOf (now (columns .entry)) (now (messages .entry)) sizes s k p)
-        × ((t : Table) → Lent t sizes (now (columns .entry)) (now (messages .entry)) → Fits t s → StepOf t s k p (r .allowed) (r .next)) ⌝ }
+    ensures { λ r. ⌜ (r ≡ stepOf (now (rows .entry)) (now (messages .entry)) sizes s k p)
+        × ((t : Table) → Lent t sizes (now (rows .entry)) (now (messages .entry)) → Fits t s → StepOf t s k p (r .allowed) (r .next)) ⌝ }
 {
     let site = Site {
         on: s.on[p],
@@ -242,6 +242,6 @@ pub fn step<'a>(
         load: s.load[p],
         traffic: s.traffic,
     };
-    let trial = attempt(columns, messages, sizes, site, k, p);
-    follow(s, k, p, columns[MEMORY][k], columns[LOAD][k], trial)
+    let trial = attempt(rows, messages, sizes, site, k, p);
+    follow(s, k, p, rows[MEMORY][k], rows[LOAD][k], trial)
 }

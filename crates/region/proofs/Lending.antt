@@ -1,4 +1,4 @@
--- What the response calculation needs of the columns that are lent. Assumes nothing.
+-- What the response calculation needs of the rows that are lent. Assumes nothing.
 use mathlib.Core.Path.{_≡_, refl}
 use mathlib.Core.List.{List}
 use Prim.Native.Nat.{ℕ}
@@ -19,7 +19,7 @@ use Rattle.region.specs.Lends.{Lends}
 pub set-below : {t : Table} {sets : List ℕ} → Partial t sets → (p : ℕ) → T (below (t .tasks .count) (getD sets p 0))
 set-below {t} {sets} w p = has-below (t .tasks .count) (getD sets p 0) (λ k. w .task k p)
 
-module _ {t : Table} {sizes : Sizes} {timing columns links : List (List ℕ)} (l : Lends t sizes timing columns links) where
+module _ {t : Table} {sizes : Sizes} {timing rows links : List (List ℕ)} (l : Lends t sizes timing rows links) where
   pub lent-tasks : tasksOf (sizes .tasks) timing ≡ tasksIn t
   lent-tasks = rw (l .rules .tasks, l .same-timing) refl
 

@@ -19,12 +19,12 @@ use Rattle.rules.specs.Sets.{standing}
 use Rattle.timing.specs.Timing.{tasksIn}
 use Rattle.judge.specs.Judge.{PlacementOf}
 use Rattle.timing.proofs.Limits.{valid-tasks, constrained-tasks}
-use Rattle.ledger.specs.Ledger.{Covered, Ledger, full, Extended, Clear}
+use Rattle.nogoods.specs.Nogoods.{Covered, Nogoods, full, Extended, Clear}
 use Rattle.partial.specs.Partial.{Partial}
 use Rattle.goal.specs.Order.{EarlierThan}
 use Rattle.region.specs.Region.{Within, Refuted, Met, Witness, Uncovered, Marked, Settled}
-use Rattle.ledger.proofs.Growth.{extended-refl, extended-trans, extended-map, full-stays, covered-grows, covered-back}
-use Rattle.ledger.proofs.Verdicts.{clear-uncovered}
+use Rattle.nogoods.proofs.Growth.{extended-refl, extended-trans, extended-map, full-stays, covered-grows, covered-back}
+use Rattle.nogoods.proofs.Verdicts.{clear-uncovered}
 use Rattle.rules.proofs.Placed.{placed-at, placed-is}
 use Rattle.region.proofs.Filling.{whole-placement}
 use Rattle.region.proofs.Refuting.{and-there, and-part, and-within, met-map}
@@ -42,7 +42,7 @@ uncovered-map f u = record {
 -- ---- settled regions
 
 module _ {t : Table} where
-  pub settled-nothing : {list : List ℕ} {count : ℕ} {cut : Bool} → Ledger (tasksIn t) list count → Settled t (λ q. ⊥) list count cut list count cut
+  pub settled-nothing : {list : List ℕ} {count : ℕ} {cut : Bool} → Nogoods (tasksIn t) list count → Settled t (λ q. ⊥) list count cut list count cut
   settled-nothing {list} {count} {cut} w = record { refuted = λ q _ none. absurd none; list = extended-refl w; mark = go cut }
     where
       go : (cut : Bool) → Marked t (λ q. ⊥) cut list count cut
@@ -98,7 +98,7 @@ module _ {t : Table} where
 
   -- a region that is passed over once the mark is cut
   pub settled-passed : {P : List ℕ → Type 0} {b : List ℕ} {j : ℕ}
-      → Refuted t (LateSet (tasksIn t)) P → Ledger (tasksIn t) b j → Settled t P b j true b j true
+      → Refuted t (LateSet (tasksIn t)) P → Nogoods (tasksIn t) b j → Settled t P b j true b j true
   settled-passed late w = record { refuted = late; list = extended-refl w; mark = inl refl }
 
   -- a region with a placement that keeps the rules and holds none of a full list
@@ -143,7 +143,7 @@ module _ {t : Table} where
       no-room (inr f) u = f .0
 
       none : (p : ℕ) → Clear (tasksIn t) true b j (has (getD sets p 0)) → Covered b j (has (getD sets p 0)) → ⊥
-      none p (inl f) = clear-uncovered (valid-tasks sound) (constrained-tasks sound) (w .ledger) f
+      none p (inl f) = clear-uncovered (valid-tasks sound) (constrained-tasks sound) (w .nogoods) f
       none p (inr f) = f .1
 
 -- ---- the search for the first placement: task k is the next

@@ -7,7 +7,7 @@ use Rattle.timing.specs.Timing.{timingOf}
 use Rattle.partial.specs.declared.Sizes.{Sizes}
 use Rattle.partial.specs.Partial.{Lent}
 
--- the table whose columns are lent, with those of the response calculation
-pub record Lends (t : Table) (sizes : Sizes) (timing columns links : List (List ℕ)) : Type 0 where
-  pub rules : Lent t sizes columns links
+-- the table whose rows are lent, with those of the response calculation
+pub record Lends (t : Table) (sizes : Sizes) (timing rows links : List (List ℕ)) : Type 0 where
+  pub rules : Lent t sizes rows links
   pub same-timing : timing ≡ timingOf t

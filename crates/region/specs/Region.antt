@@ -14,7 +14,7 @@ use Rattle.rules.specs.Rules.{Keeps, residenceBroken}
 use Rattle.rules.specs.Sets.{standing}
 use Rattle.timing.specs.Timing.{tasksIn}
 use Rattle.judge.specs.Judge.{PlacementOf}
-use Rattle.ledger.specs.Ledger.{Covered, full, Extended}
+use Rattle.nogoods.specs.Nogoods.{Covered, full, Extended}
 use Rattle.partial.specs.Partial.{Whole}
 
 -- the placements that have each task where `on` has it

@@ -3,7 +3,7 @@ use Prim.Native.Nat.{ℕ, _*_, _≤_, _<_}
 use native.Mathlib.Omega.{arith}
 use native.Mathlib.Nat.{div-le-self, mul-le-mul}
 use lib.ListN.{getD}
-use Rattle.multiple.proofs.Laws.{lcmTo-pos}
+use Rattle.lcm.proofs.Laws.{lcmTo-pos}
 use Rattle.table.specs.declared.Table.{Table}
 use Rattle.table.specs.Sound.{Sound}
 use Rattle.table.proofs.Times.{some-period}

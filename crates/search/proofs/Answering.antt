@@ -22,8 +22,8 @@ use Rattle.goal.specs.Order.{EarlierThan, Earlier}
 use Rattle.goal.specs.Goal.{HoldsListed, markOf, Listed}
 use Rattle.goal.proofs.First.{Before}
 use Rattle.goal.proofs.Mark.{on-one, mark-complete, mark-cut, met-intro}
-use Rattle.ledger.specs.Ledger.{masksIn, Covered}
-use Rattle.ledger.proofs.Masks.{masks-long, masks-get}
+use Rattle.nogoods.specs.Nogoods.{masksIn, Covered}
+use Rattle.nogoods.proofs.Masks.{masks-long, masks-get}
 use Rattle.region.specs.Region.{Witness, Marked, Settled}
 use Rattle.first.specs.First.{InTime}
 
@@ -59,8 +59,8 @@ module _ {t : Table} (h : Sound t) {P : List ℕ → Type 0} (forth : (e : List 
 
   pub settled-listed : Listed t cs
   settled-listed = record {
-    different = λ i j a b e. w .list .ledger .different i j (get i a .0) (get j b .0) (sym (get i a .1) ∙ e ∙ get j b .1);
-    minimal = λ j l. subst (Minimal (tasksIn t)) (sym (get j l .1)) (w .list .ledger .minimal j (get j l .0));
+    different = λ i j a b e. w .list .nogoods .different i j (get i a .0) (get j b .0) (sym (get i a .1) ∙ e ∙ get j b .1);
+    minimal = λ j l. subst (Minimal (tasksIn t)) (sym (get j l .1)) (w .list .nogoods .minimal j (get j l .0));
     met = λ j l. let m = w .list .grows .added j (omega arith) (get j l .0) in
         rw (get j l .1) (met-intro h (maskAt new j) (m .whole) (forth (m .placement) (m .whole) (m .inside)) (m .resides) (on-one h (m .whole) (maskAt new j) (m .processor) (m .holds)));
   }

@@ -22,8 +22,8 @@ use Rattle.answer.proofs.Laws.{listing-length, whole-last}
 use Rattle.goal.specs.Order.{EarlierThan, Earlier}
 use Rattle.goal.specs.Goal.{headOf, markOf, Listed}
 use Rattle.goal.proofs.First.{Before, earlier-before, before-earlier, found-head, none-before, none-head}
-use Rattle.ledger.specs.Ledger.{masksIn}
-use Rattle.ledger.proofs.Masks.{masks-long, listing-grown}
+use Rattle.nogoods.specs.Nogoods.{masksIn}
+use Rattle.nogoods.proofs.Masks.{masks-long, listing-grown}
 use Rattle.partial.specs.Partial.{Whole}
 use Rattle.region.specs.Region.{Witness, Settled}
 use Rattle.rules.proofs.Placed.{placed-at, placed-is}
@@ -31,8 +31,8 @@ use Rattle.region.proofs.Filling.{whole-placement}
 use Rattle.search.specs.declared.Answer.the-variants.{Written}
 use Rattle.search.specs.Search.{Lists}
 use Rattle.first.specs.First.{InTime}
-use Rattle.run.specs.declared.Ran.{Ran}
-use Rattle.run.specs.Run.{RunsAs, RanAs}
+use Rattle.solve.specs.declared.Solved.{Solved}
+use Rattle.solve.specs.Solve.{SolvesAs, SolvedAs}
 use Rattle.search.specs.Steps.{HeadBy}
 use Rattle.search.proofs.Answering.{AsList, witness-good, earlier-sets, sets-earlier, settled-listed, settled-mark, settled-full}
 
@@ -52,8 +52,8 @@ pub record Final (t : Table) (old new : List ℕ) (count : ℕ) (cut : Bool) : T
   pub full : markOf t (masksIn new count) ≡ false → length old < 6 * length (masksIn new count) + 9
   pub listing : Listing old (masksIn new count) new
 
-module _ {t : Table} (h : Sound t) (old new : List ℕ) (r : Ran) where
-  finals : (found : Bool) → RunsAs found t old new r → Final t old new (r .listed .count) (r .listed .cut)
+module _ {t : Table} (h : Sound t) (old new : List ℕ) (r : Solved) where
+  finals : (found : Bool) → SolvesAs found t old new r → Final t old new (r .listed .count) (r .listed .cut)
   finals true (w, s) = record {
     listed = settled-listed h forth ahead s;
     mark = settled-mark h forth ahead s;
@@ -82,15 +82,15 @@ module _ {t : Table} (h : Sound t) (old new : List ℕ) (r : Ran) where
       forth : (e : List ℕ) → PlacementOf t e → Unit {0} → Before t e
       forth e v x = none-before h (λ q i g. let l = s .refuted q i tt (g .keeps) in g .in-time (l .0) (l .1)) v
 
-  heads : (found : Bool) → RunsAs found t old new r → HeadBy found t (r .on)
+  heads : (found : Bool) → SolvesAs found t old new r → HeadBy found t (r .on)
   heads true (w, s) = (w .whole, found-headed h w s)
   heads false s = none-head h (λ q i g. let l = s .refuted q i tt (g .keeps) in g .in-time (l .0) (l .1))
 
-  pub ran-final : RanAs t old new r → Final t old new (r .listed .count) (r .listed .cut)
-  ran-final = finals (r .found)
+  pub solved-final : SolvedAs t old new r → Final t old new (r .listed .count) (r .listed .cut)
+  solved-final = finals (r .found)
 
-  pub ran-head : RanAs t old new r → HeadBy (r .found) t (r .on)
-  ran-head = heads (r .found)
+  pub solved-head : SolvedAs t old new r → HeadBy (r .found) t (r .on)
+  solved-head = heads (r .found)
 
 pub head-known : (t : Table) (sets : List ℕ) {b c : Bool} → b ≡ c → HeadBy b t sets → HeadBy c t sets
 head-known t sets e = subst (λ (x : Bool). HeadBy x t sets) e

@@ -42,12 +42,12 @@ fn search_table(table: Table, buffer: &mut [u8]) -> Answer
     if buffer.len() < n + 5 {
         return Answer::Refused(Cause::ShortAnswer, 0);
     }
-    let ran = run::run_table(table, &mut buffer[n + 2..]);
-    let listed = ran.listed;
+    let solved = solve::solve(table, &mut buffer[n + 2..]);
+    let listed = solved.listed;
     let cut = listed.cut;
     answer::put_end(&mut buffer[n + 2..], listed.count, !cut);
-    let on = ran.on;
-    put_head(table, ran.found, on, buffer);
+    let on = solved.on;
+    put_head(table, solved.found, on, buffer);
     Answer::Written(n + 5 + 6 * listed.count)
 }
 

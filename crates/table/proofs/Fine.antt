@@ -9,8 +9,8 @@ use native.Mathlib.Numerals.{add-one}
 use native.Mathlib.Omega.{arith}
 use native.Mathlib.Decide.{ℕ-discrete}
 use borrow.Author.Tests.{ne-eqb}
-use Rattle.multiple.specs.Multiple.{lcm, lcmTo}
-use Rattle.multiple.proofs.Laws.{lcmTo-ext}
+use Rattle.lcm.specs.Lcm.{lcm, lcmTo}
+use Rattle.lcm.proofs.Laws.{lcmTo-ext}
 use Rattle.layout.specs.declared.Kind.{Kind}
 use Rattle.layout.specs.declared.Kind.the-variants.{Task}
 use Rattle.layout.specs.declared.Progress.{Progress}

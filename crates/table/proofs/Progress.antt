@@ -8,7 +8,7 @@ use native.Mathlib.Omega.{arith}
 use borrow.Author.Tests.{ne-eqb}
 use lib.ListN.{length, length-set, getD-replicate}
 use lib.Seq.{getD-set-same, getD-set-other}
-use Rattle.multiple.proofs.Laws.{lcm-pos}
+use Rattle.lcm.proofs.Laws.{lcm-pos}
 use Rattle.layout.specs.declared.Kind.{Kind}
 use Rattle.layout.specs.declared.Kind.the-variants.{Network, Task}
 use Rattle.layout.specs.declared.Progress.{Progress}

@@ -6,7 +6,7 @@ use Prim.Native.Nat.{ℕ, _^_, _≤_, _<_}
 use native.Mathlib.Omega.{arith}
 use native.Mathlib.Decide.{ℕ-discrete, decLt}
 use lib.ListN.{length, getD}
-use Rattle.multiple.proofs.Laws.{lcmTo-ext}
+use Rattle.lcm.proofs.Laws.{lcmTo-ext}
 use Rattle.wire.specs.Wire.{Bytes}
 use Rattle.wire.proofs.Laws.{number-lt}
 use Rattle.layout.specs.declared.Kind.{Kind}

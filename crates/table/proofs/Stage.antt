@@ -8,7 +8,7 @@ use native.Mathlib.Numerals.{add-one}
 use borrow.Author.Tests.{ne-eqb}
 use lib.ListN.{length, getD, set}
 use lib.Seq.{getD-set-same, getD-set-other, set-getD, set-set}
-use Rattle.multiple.specs.Multiple.{lcmTo}
+use Rattle.lcm.specs.Lcm.{lcmTo}
 use Rattle.layout.specs.declared.Kind.{Kind}
 use Rattle.layout.specs.declared.Kind.the-variants.{Network, Task}
 use Rattle.layout.specs.declared.Progress.{Progress}

@@ -10,8 +10,8 @@ use lib.Dec.{eqb}
 use lib.ListN.{getD}
 use Rattle.finite.proofs.Some.{some-false}
 use Rattle.mask.specs.Mask as mask
-use Rattle.multiple.specs.Multiple.{lcmTo}
-use Rattle.multiple.proofs.Laws.{lcmTo-mono}
+use Rattle.lcm.specs.Lcm.{lcmTo}
+use Rattle.lcm.proofs.Laws.{lcmTo-mono}
 use Rattle.layout.specs.declared.Kind.{Kind}
 use Rattle.layout.specs.declared.Kind.the-variants.{Network, Processor, Task, CoResident, Exclusive, Message}
 use Rattle.layout.specs.Format.{row, count, place}

@@ -5,7 +5,7 @@ use mathlib.Core.List.{List}
 use Prim.Native.Nat.{ℕ, _^_, _≤_, _<_}
 use lib.ListN.{getD, length}
 use Rattle.mask.specs.Mask.{cardinality}
-use Rattle.multiple.specs.Multiple.{lcmTo}
+use Rattle.lcm.specs.Lcm.{lcmTo}
 use Rattle.table.specs.declared.Table.{Table}
 use Rattle.table.specs.declared.Processors.{Processors}
 use Rattle.table.specs.declared.Tasks.{Tasks}

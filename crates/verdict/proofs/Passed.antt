@@ -10,7 +10,7 @@ use lib.Dec.{leb, eqb}
 use Rattle.finite.specs.Finite.{someBelow}
 use Rattle.finite.proofs.Some.{some-true}
 use Rattle.mask.specs.Mask as mask
-use Rattle.multiple.specs.Multiple.{lcm}
+use Rattle.lcm.specs.Lcm.{lcm}
 use Rattle.layout.specs.declared.Kind.the-variants.{Processor, Task, Message}
 use Rattle.layout.specs.declared.Progress.{Progress}
 use Rattle.layout.specs.Format.{limit, executionTime, period, deadline, priority, sender, receiver, amount, count, place}

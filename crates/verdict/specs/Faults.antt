@@ -6,7 +6,7 @@ use lib.Dec.{leb, ltb, eqb}
 use lib.ListN.{length}
 use Rattle.finite.specs.Finite.{someBelow}
 use Rattle.mask.specs.Mask as mask
-use Rattle.multiple.specs.Multiple.{lcm}
+use Rattle.lcm.specs.Lcm.{lcm}
 use Rattle.layout.specs.declared.Kind.{Kind}
 use Rattle.layout.specs.declared.Kind.the-variants.{Network, Processor, Task, CoResident, Exclusive, Message}
 use Rattle.layout.specs.declared.Mark.{Mark}

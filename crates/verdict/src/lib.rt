@@ -145,7 +145,7 @@ fn task_verdict(file: &[u8], at: usize, x: Progress) -> Verdict
     if repeated(file, at, x, Kind::Task, 18) {
         return Verdict::Refused(Cause::PriorityUsed);
     }
-    let hyperperiod = multiple::least_common_multiple(x.hyperperiod, wire::word_at(file, at + 6));
+    let hyperperiod = lcm::least_common_multiple(x.hyperperiod, wire::word_at(file, at + 6));
     if 1000000000 < hyperperiod {
         return Verdict::Refused(Cause::HyperperiodTooLarge);
     }

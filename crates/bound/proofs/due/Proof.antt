@@ -7,7 +7,7 @@ use borrow.Author.Tests.{le-leb, lt-leb, eq-eqb, ne-eqb}
 use lib.Dec.{leb}
 use Rattle.mask.specs.Mask.{cardinality}
 use Rattle.mask.proofs.Laws.{cardinality-ones}
-use Rattle.bound.specs.Due.{askedNotes}
+use Rattle.bound.specs.Due.{askedHeuristics}
 use Rattle.bound.proofs.due.Statement.{statement}
 use Rattle.bound.proofs.due.Tie as tie
 
@@ -16,7 +16,7 @@ many : (e : tie.Else1) → leb 4 (cardinality 32 (e .before .args .left)) ≡ tr
 many e = le-leb 4 (cardinality 32 (e .before .args .left)) (omega (arith, cardinality-ones 32 (e .before .args .left) (search needs)))
 
 pub due-spec : {M : Type 1} → statement M
-unfolding askedNotes
+unfolding askedHeuristics
 due-spec =
     tie.close
     (tie.spec
@@ -25,5 +25,5 @@ due-spec =
     (λ c. rw (many (c .before .before), ne-eqb _ _ (c .if2 .taken)) (refl, refl))  -- returns-2
     (λ c. search needs)  -- element-copy-out-skips
     (λ c. search needs)  -- add-skips
-    (λ c. search needs)  -- element-write-notes
+    (λ c. search needs)  -- element-write-heuristics
     (λ c. rw (many (c .before .before .before), eq-eqb _ _ (c .before .if2 .left)) (refl, refl)))  -- returns-3

@@ -10,5 +10,5 @@ note-spec =
     (tie.spec
     (λ c. search needs)  -- element-copy-out-credit
     (λ c κs. search needs)  -- credit-requires
-    (λ c. search needs)  -- element-write-notes
+    (λ c. search needs)  -- element-write-heuristics
     (λ c. rw (c .credit .ensures) refl))  -- returns

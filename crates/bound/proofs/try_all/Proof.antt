@@ -6,22 +6,22 @@ use borrow.Author.Needs.{needs}
 use lib.ListN.{length}
 use Rattle.partial.proofs.MessageSum.{small-messages}
 use Rattle.region.specs.Given.{Gives}
-use Rattle.memo.specs.Memo.{Learnt}
-use Rattle.crossing.proofs.Network.{crossing-as}
-use Rattle.weighing.specs.Bound.{BoundedAs}
-use Rattle.weighing.specs.Weighing.{Weighable}
-use Rattle.bound.proofs.Bounding.{offered-weighable, weighable-then, bounded-network, bounded-from, bounded-then}
+use Rattle.bound_cache.specs.BoundCache.{Learnt}
+use Rattle.network_bound.proofs.Network.{crossing-as}
+use Rattle.capacity_bound.specs.Bound.{BoundedAs}
+use Rattle.capacity_bound.specs.CapacityBound.{Weighable}
+use Rattle.bound.proofs.Bounding.{candidates-weighable, weighable-then, bounded-network, bounded-from, bounded-then}
 use Rattle.bound.proofs.try_all.Statement.{statement}
 use Rattle.bound.proofs.try_all.Tie as tie
 
 abbrev Inv-loop : tie.InvT-loop
-Inv-loop timing columns messages sizes s mode list₀ count known₀ memo₀ sets remote hopeless₀ listed₀ row₀ list known memo hopeless listed row =
+Inv-loop timing rows messages sizes s mode list₀ count lateness₀ bounds₀ sets remote hopeless₀ listed₀ row₀ list lateness bounds hopeless listed row =
     (length list ≡ length list₀)
-    × Gives sizes timing columns messages (λ t. Weighable t mode s sets list₀ listed₀) (λ t. Learnt t columns known₀ memo₀)
-    (λ t. BoundedAs t mode s list₀ listed₀ list (record { hopeless = hopeless; count = listed }) × Learnt t columns known memo)
+    × Gives sizes timing rows messages (λ t. Weighable t mode s sets list₀ listed₀) (λ t. Learnt t rows lateness₀ bounds₀)
+    (λ t. BoundedAs t mode s list₀ listed₀ list (record { hopeless = hopeless; count = listed }) × Learnt t rows lateness bounds)
 
 abbrev μ-loop : tie.MeasureT-loop
-μ-loop timing columns messages sizes s mode list₀ count known₀ memo₀ sets remote hopeless₀ listed₀ row₀ list known memo hopeless listed row = 3 - row
+μ-loop timing rows messages sizes s mode list₀ count lateness₀ bounds₀ sets remote hopeless₀ listed₀ row₀ list lateness bounds hopeless listed row = 3 - row
 
 pub try-all-spec : {M : Type 1} → statement M
 try-all-spec =
@@ -29,7 +29,7 @@ try-all-spec =
     (tie.spec
     Inv-loop
     μ-loop
-    (λ c κs. let z = c .before .before .before .pre in (z .0, z .1, z .2, z .3 .knows))  -- offers-requires
+    (λ c κs. let z = c .before .before .before .pre in (z .0, z .1, z .2, z .3 .knows))  -- candidates-of-requires
     (λ c. search needs)  -- index-1-crossing
     (λ c κs.
     let l = c .before .before .before .before .before .before .before .before .pre .1 .rules in
@@ -39,8 +39,8 @@ try-all-spec =
     let i = c .before .before .before .before .before in
     let x = i .before .before .before .before .before .before .before in
     let z = x .before .before .before .before .pre in
-    let a = x .offers .ensures (z .0) (z .1) (z .2) (z .3 .knows) in
-    let w = offered-weighable (z .2) (x .offers .result) (a .0) in
+    let a = x .candidates-of .ensures (z .0) (z .1) (z .2) (z .3 .knows) in
+    let w = candidates-weighable (z .2) (x .candidates-of .result) (a .0) in
     let b = i .loop .inv .1 (z .0) (z .1) w (record { knows = a .1; keeps = z .3 .keeps }) in (
       (z .0, z .1, weighable-then w _ (b .0), b .1),
       c .before .before .before .before .loop-test .taken,
@@ -61,14 +61,14 @@ try-all-spec =
     let i = c .before .before in
     let x = i .before .before .before .before .before .before .before in
     λ t l w k.
-    let a = x .offers .ensures t l w (k .knows) in
-    let b = i .loop .inv .1 t l (offered-weighable w (x .offers .result) (a .0)) (record { knows = a .1; keeps = k .keeps }) in
-    (bounded-from (x .offers .result) _ (a .0) (b .0), b .1))  -- returns
+    let a = x .candidates-of .ensures t l w (k .knows) in
+    let b = i .loop .inv .1 t l (candidates-weighable w (x .candidates-of .result) (a .0)) (record { knows = a .1; keeps = k .keeps }) in
+    (bounded-from (x .candidates-of .result) _ (a .0) (b .0), b .1))  -- returns
     (λ c. search needs)  -- same-length-2
     (λ c.
     let i = c .before in
     let x = i .before .before .before .before .before .before .before in
     λ t l w k.
-    let a = x .offers .ensures t l w (k .knows) in
-    let b = i .loop .inv .1 t l (offered-weighable w (x .offers .result) (a .0)) (record { knows = a .1; keeps = k .keeps }) in
-    (bounded-from (x .offers .result) _ (a .0) (b .0), b .1)))  -- returns-2
+    let a = x .candidates-of .ensures t l w (k .knows) in
+    let b = i .loop .inv .1 t l (candidates-weighable w (x .candidates-of .result) (a .0)) (record { knows = a .1; keeps = k .keeps }) in
+    (bounded-from (x .candidates-of .result) _ (a .0) (b .0), b .1)))  -- returns-2

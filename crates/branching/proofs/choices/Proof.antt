@@ -5,18 +5,18 @@ use mathlib.Core.Logic.{⊎-elim}
 use Prim.Native.Nat.{_-_, _≤_}
 use native.Mathlib.Omega.{arith}
 use Rattle.schedule.specs.Arrays.{tasksOf}
-use Rattle.known.specs.Known.{Knows}
+use Rattle.late_cache.specs.LateCache.{LateCache}
 use Rattle.region.proofs.Lending.{lent-tasks, limits-with}
 use Rattle.branching.proofs.Open.{open-low}
 use Rattle.branching.proofs.choices.Statement.{statement}
 use Rattle.branching.proofs.choices.Tie as tie
 
 abbrev Inv-loop : tie.InvT-loop
-Inv-loop timing columns messages sizes k full list count known₀ s found₀ p₀ known found p =
-    (p ≤ sizes .processors) × (found ≤ p) × Knows (tasksOf (sizes .tasks) timing) known
+Inv-loop timing rows messages sizes k full list count lateness₀ s found₀ p₀ lateness found p =
+    (p ≤ sizes .processors) × (found ≤ p) × LateCache (tasksOf (sizes .tasks) timing) lateness
 
 abbrev μ-loop : tie.MeasureT-loop
-μ-loop timing columns messages sizes k full list count known₀ s found₀ p₀ known found p =
+μ-loop timing rows messages sizes k full list count lateness₀ s found₀ p₀ lateness found p =
     sizes .processors - p
 
 pub choices-spec : {M : Type 1} → statement M

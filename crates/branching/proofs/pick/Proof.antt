@@ -8,18 +8,18 @@ use Rattle.mask.specs.Mask.{has}
 use Rattle.mask.proofs.Laws.{lowest-is}
 use Rattle.mask.proofs.Visit.{Visit, visit-start, visit-member, visit-less, visit-next}
 use Rattle.schedule.specs.Arrays.{tasksOf}
-use Rattle.known.specs.Known.{Knows}
+use Rattle.late_cache.specs.LateCache.{LateCache}
 use Rattle.region.proofs.Lending.{lent-tasks}
 use Rattle.branching.proofs.Open.{open-low}
 use Rattle.branching.proofs.pick.Statement.{statement}
 use Rattle.branching.proofs.pick.Tie as tie
 
 abbrev Inv-loop : tie.InvT-loop
-Inv-loop timing columns messages sizes s list count notes₀ known₀ full best₀ least₀ rest₀ notes known best least rest =
-    Visit 32 (s .left) rest (λ k. Unit {0}) × T (has (s .left) best) × Knows (tasksOf (sizes .tasks) timing) known
+Inv-loop timing rows messages sizes s list count heuristics₀ lateness₀ full best₀ least₀ rest₀ heuristics lateness best least rest =
+    Visit 32 (s .left) rest (λ k. Unit {0}) × T (has (s .left) best) × LateCache (tasksOf (sizes .tasks) timing) lateness
 
 abbrev μ-loop : tie.MeasureT-loop
-μ-loop timing columns messages sizes s list count notes₀ known₀ full best₀ least₀ rest₀ notes known best least rest =
+μ-loop timing rows messages sizes s list count heuristics₀ lateness₀ full best₀ least₀ rest₀ heuristics lateness best least rest =
     rest
 
 -- the task that is looked at

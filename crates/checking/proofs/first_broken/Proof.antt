@@ -16,4 +16,8 @@ first-broken-spec =
     (λ c κs. search needs)  -- check-rule-requires-5
     (λ c κs. search needs)  -- check-rule-requires-6
     (λ c κs. search needs)  -- check-rule-requires-7
-    (λ c. rw (c .check-rule7 .ensures, c .before .check-rule6 .ensures, c .before .before .check-rule5 .ensures, c .before .before .before .check-rule4 .ensures, c .before .before .before .before .check-rule3 .ensures, c .before .before .before .before .before .check-rule2 .ensures, c .before .before .before .before .before .before .check-rule .ensures)))  -- returns
+    (λ c.
+    let b5 = c .before .before in
+    let b3 = b5 .before .before in
+    let b1 = b3 .before .before in
+    rw (c .check-rule7 .ensures, c .before .check-rule6 .ensures, b5 .check-rule5 .ensures, b5 .before .check-rule4 .ensures, b3 .check-rule3 .ensures, b3 .before .check-rule2 .ensures, b1 .check-rule .ensures)))  -- returns

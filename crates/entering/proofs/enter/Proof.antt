@@ -28,6 +28,6 @@ enter-spec =
     let w = c .before .before .before .before .before .before in
     let a = w .before .before .pre .0 in
     let step = step-allowed (w .step .result .allowed) (w .step .ensures .1 (a .0) (a .1 .rules) (a .2 .fits)) (c .before .before .before .if1 .left) in
-    (lent-limits (a .1) (set-below (step .fits .partial) _), rw (lent-tasks (a .1)) (a .2 .ledger), rw (lent-tasks (a .1)) (a .3)))  -- test-requires
+    (lent-limits (a .1) (set-below (step .fits .partial) _), rw (lent-tasks (a .1)) (a .2 .nogoods), rw (lent-tasks (a .1)) (a .3)))  -- test-requires
     (λ c. search needs)  -- same-length
     returns-2)

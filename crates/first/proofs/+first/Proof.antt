@@ -5,9 +5,9 @@ use mathlib.Core.Path.{_≡_, refl, _∙_}
 use Prim.Native.Nat.{ℕ, _-_, _≤_, _<_}
 use lib.ListN.{length}
 use Rattle.region.specs.Given.{Gives}
-use Rattle.memo.specs.Memo.{Learnt}
+use Rattle.bound_cache.specs.BoundCache.{Learnt}
 use Rattle.first.specs.First.{Placing}
-use Rattle.first.proofs.Placing.{step-taken, placing-next, Passing, passing-start, passing-trying, passing-next, taken-good, taken-ledger, first-whole, first-taken, not-missed}
+use Rattle.first.proofs.Placing.{step-taken, placing-next, Passing, passing-start, passing-trying, passing-next, taken-good, taken-nogoods, first-whole, first-taken, not-missed}
 use borrow.Fn.Kinds.{In}
 use borrow.Fn.PlainCycle.{Measures, is, falls, and}
 use Rattle.first.proofs.first.Reads as first
@@ -28,13 +28,13 @@ abbrev first-below : ℕ → In 5 first-kinds.ps
 first-below t = and 5 first-kinds.ps (falls 5 first-kinds.ps _<_ μ-first t) first.Pre
 
 abbrev first-Inv-loop : first-lts.InvT-loop
-first-Inv-loop timing columns messages sizes s k witness list₀ notes₀ known₀ memo₀ on at₀ p₀ list notes known memo at p =
+first-Inv-loop timing rows messages sizes s k witness list₀ heuristics₀ lateness₀ bounds₀ on at₀ p₀ list heuristics lateness bounds at p =
     (p ≤ sizes .processors) × (length list ≡ length list₀)
-    × Gives sizes timing columns messages (λ t. Placing t s k witness list₀ (at₀ .count)) (λ t. Learnt t columns known₀ memo₀)
-    (λ t. Passing t s k witness list₀ at₀ p list at × Learnt t columns known memo)
+    × Gives sizes timing rows messages (λ t. Placing t s k witness list₀ (at₀ .count)) (λ t. Learnt t rows lateness₀ bounds₀)
+    (λ t. Passing t s k witness list₀ at₀ p list at × Learnt t rows lateness bounds)
 
 abbrev first-μ-loop : first-lts.MeasureT-loop
-first-μ-loop timing columns messages sizes s k witness list₀ notes₀ known₀ memo₀ on at₀ p₀ list notes known memo at p =
+first-μ-loop timing rows messages sizes s k witness list₀ heuristics₀ lateness₀ bounds₀ on at₀ p₀ list heuristics lateness bounds at p =
     sizes .processors - p
 
 pub +first-spec : {M : Type 1} → statement M
@@ -77,7 +77,7 @@ pub +first-spec : {M : Type 1} → statement M
     let below : i .before .before .before .before .before .args .k < u .tasks .count = omega (arith, w .upto, l .rules .tasks, i .before .if1 .left) in
     let good = taken-good (v .0) w _ (x .try-processor .result) (y .0) e in
     let step = step-taken (l .rules .sound) w (i .loop .p) good (c .before .before .before .before .before .before .step .result .allowed) (c .before .before .before .before .before .before .step .ensures .1 u (l .rules) (w .fits)) in
-    (omega (arith, a .0, below, l .rules .tasks), (u, l, placing-next (l .rules .sound) w below (taken-ledger (v .0) w _ (x .try-processor .result) (y .0) e) good step, y .1)))  -- first-requires
+    (omega (arith, a .0, below, l .rules .tasks), (u, l, placing-next (l .rules .sound) w below (taken-nogoods (v .0) w _ (x .try-processor .result) (y .0) e) good step, y .1)))  -- first-requires
     (λ c. c .before .before .first .kept .1 .1 .1 .1 .1 .1 .1 .0
     ∙ c .before .before .before .before .before .before .before .before .before .before .before .before .before .before .try-processor .kept .1 .1 .1 .1 .1 .1 .1 .1 .0
     ∙ c .before .before .before .before .before .before .before .before .before .before .before .before .before .before .before .before .before .before .before .before .before .loop .inv .1)  -- same-length
@@ -91,7 +91,7 @@ pub +first-spec : {M : Type 1} → statement M
     let below : i .before .before .before .before .before .args .k < u .tasks .count = omega (arith, w .upto, l .rules .tasks, i .before .if1 .left) in
     let good = taken-good (v .0) w _ (x .try-processor .result) (y .0) e in
     let step = step-taken (l .rules .sound) w (i .loop .p) good (f .before .before .before .before .before .before .before .step .result .allowed) (f .before .before .before .before .before .before .before .step .ensures .1 u (l .rules) (w .fits)) in
-    let z = f .first .ensures u l (placing-next (l .rules .sound) w below (taken-ledger (v .0) w _ (x .try-processor .result) (y .0) e) good step) (y .1) in
+    let z = f .first .ensures u l (placing-next (l .rules .sound) w below (taken-nogoods (v .0) w _ (x .try-processor .result) (y .0) e) good step) (y .1) in
     (first-taken (v .0) w _ (x .try-processor .result) (y .0) e below step (f .first .result) (z .0), z .1))  -- returns-2
     (λ c. search needs)  -- add-p
     (λ c. omega arith)  -- loop-less

@@ -3,7 +3,7 @@ use native.Mathlib.Omega.{arith}
 use mathlib.Core.List.{[], _∷_}
 use borrow.Author.Needs.{needs}
 use borrow.Author.Tests.{not-true, not-false}
-use Rattle.deciding.proofs.Answering.{ready-begins}
+use Rattle.restarts.proofs.Answering.{ready-begins}
 use Rattle.first.proofs.Entering.{decided-closed, entered-ready, decided-open}
 use Rattle.first.proofs.decide_on.Statement.{statement}
 use Rattle.first.proofs.decide_on.Tie as tie

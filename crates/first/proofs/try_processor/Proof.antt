@@ -1,8 +1,8 @@
 -- Each way out is one law of Placing; where none is good the region is refuted before it is listed.
 use native.Mathlib.Omega.{arith}
 use borrow.Author.Needs.{needs}
-use Rattle.twin.proofs.Asking.{asks}
-use Rattle.first.proofs.Placing.{held, not-held, deciding, listing, tried-held, tried-twin, tried-found, tried-passed, tried-listed}
+use Rattle.symmetry.proofs.Asking.{asks}
+use Rattle.first.proofs.Placing.{held, not-held, deciding, listing, tried-held, tried-symmetric, tried-found, tried-passed, tried-listed}
 use Rattle.first.proofs.try_processor.Statement.{statement}
 use Rattle.first.proofs.try_processor.Tie as tie
 
@@ -14,11 +14,11 @@ try-processor-spec =
     (λ c. search needs)  -- array-read-has
     (λ c κs. search needs)  -- has-requires
     (λ c t l x k. (tried-held x (held (c .before .has .ensures) (c .if1 .taken)), k))  -- returns
-    (λ c κs. let a = c .before .before .before .pre in (a .0 .0, asks (a .0 .1 .rules) (a .0 .2 .placing .fits) (a .2)))  -- twin-requires
+    (λ c κs. let a = c .before .before .before .pre in (a .0 .0, asks (a .0 .1 .rules) (a .0 .2 .placing .fits) (a .2)))  -- representative-requires
     (λ c t l x k.
     let a = c .before .before .before .before .before in (
-      tried-twin x (not-held (c .before .before .before .has .ensures) (c .before .before .if1 .left)) (c .before .twin .result) (c .if2 .taken)
-          (c .before .twin .ensures t (asks (l .rules) (x .placing .fits) (a .pre .2)) .twin (c .if2 .taken)),
+      tried-symmetric x (not-held (c .before .before .before .has .ensures) (c .before .before .if1 .left)) (c .before .representative .result) (c .if2 .taken)
+          (c .before .representative .ensures t (asks (l .rules) (x .placing .fits) (a .pre .2)) .interchangeable (c .if2 .taken)),
       k,
     ))  -- returns-2
     (λ c κs.

@@ -7,10 +7,10 @@ use Rattle.pairs.proofs.nowhere.Statement.{statement}
 use Rattle.pairs.proofs.nowhere.Tie as tie
 
 abbrev Inv-loop : tie.InvT-loop
-Inv-loop columns s processors i j p₀ p = Searched processors (takesBoth columns s i j) p
+Inv-loop rows s processors i j p₀ p = Searched processors (takesBoth rows s i j) p
 
 abbrev μ-loop : tie.MeasureT-loop
-μ-loop columns s processors i j p₀ p = processors - p
+μ-loop rows s processors i j p₀ p = processors - p
 
 pub nowhere-spec : {M : Type 1} → statement M
 unfolding nowhere

@@ -10,10 +10,10 @@ use Rattle.pairs.proofs.strangers.Statement.{statement}
 use Rattle.pairs.proofs.strangers.Tie as tie
 
 abbrev Inv-loop : tie.InvT-loop
-Inv-loop timing columns sizes s i n count₀ j₀ count j = Summing n (apart timing columns sizes s i) (λ k. 1) 1 j count
+Inv-loop timing rows sizes s i n count₀ j₀ count j = Summing n (apart timing rows sizes s i) (λ k. 1) 1 j count
 
 abbrev μ-loop : tie.MeasureT-loop
-μ-loop timing columns sizes s i n count₀ j₀ count j = n - j
+μ-loop timing rows sizes s i n count₀ j₀ count j = n - j
 
 pub strangers-spec : {M : Type 1} → statement M
 unfolding strangersOf

@@ -6,7 +6,7 @@ use borrow.Author.Tests.{lt-leb, le-leb, not-true, not-false}
 use lib.ListN.{getD}
 use Rattle.mask.specs.Mask.{has}
 use Rattle.mask.proofs.Laws.{has-and}
-use Rattle.columns.specs.Columns.{residenceRow}
+use Rattle.rows.specs.Rows.{residenceRow}
 use Rattle.pairs.specs.Pairs.{takesBoth}
 use Rattle.pairs.proofs.takes_both.Statement.{statement}
 use Rattle.pairs.proofs.takes_both.Tie as tie
@@ -16,8 +16,8 @@ the-last : (a b c : Bool) → a ≡ true → b ≡ true → c ≡ (a && (b && c)
 the-last a b c e f = rw (e, f)
 
 -- the set that the code tests is that of the processors which both tasks may reside on
-resides : (c : tie.After-has) → let a = c .before .before .before .args in let row = residenceRow (a .columns .now) in c .has .result ≡ (has (getD row (a .i) 0) (a .p) && has (getD row (a .j) 0) (a .p))
-resides c = let a = c .before .before .before .args in let row = residenceRow (a .columns .now) in c .has .ensures ∙ has-and (getD row (a .i) 0) (getD row (a .j) 0) (a .p)
+resides : (c : tie.After-has) → let a = c .before .before .before .args in let row = residenceRow (a .rows .now) in c .has .result ≡ (has (getD row (a .i) 0) (a .p) && has (getD row (a .j) 0) (a .p))
+resides c = let a = c .before .before .before .args in let row = residenceRow (a .rows .now) in c .has .ensures ∙ has-and (getD row (a .i) 0) (getD row (a .j) 0) (a .p)
 
 pub takes-both-spec : {M : Type 1} → statement M
 unfolding takesBoth

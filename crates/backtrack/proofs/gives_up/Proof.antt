@@ -1,0 +1,17 @@
+-- A search that is not limited goes on.
+use mathlib.Core.Bool.{false≢true}
+use borrow.Author.Needs.{needs}
+use borrow.Author.Tests.{not-false}
+use Rattle.backtrack.proofs.gives_up.Statement.{statement}
+use Rattle.backtrack.proofs.gives_up.Tie as tie
+
+pub gives-up-spec : {M : Type 1} → statement M
+gives-up-spec =
+    tie.close
+    (tie.spec
+    (λ c e. absurd (false≢true e))  -- returns
+    (λ c. search needs)  -- element-copy-out-fuel
+    (λ c e. not-false (c .before .before .before .args .limited) (c .before .before .if1 .left))  -- returns-2
+    (λ c. search needs)  -- sub-heuristics
+    (λ c. search needs)  -- element-write-heuristics
+    (λ c e. absurd (false≢true e)))  -- returns-3

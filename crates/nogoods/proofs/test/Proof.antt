@@ -1,0 +1,127 @@
+-- The list stays as it is, or takes a conflict of a late set that holds no listed one.
+use borrow.Author.Needs.{needs}
+use borrow.Author.Tests.{not-true, not-false, lt-ltb, le-ltb}
+use mathlib.Core.Path.{_≡_, refl, sym, _∙_}
+use mathlib.Core.Bool.{true}
+use mathlib.Core.Logic.{inr}
+use Prim.Native.Nat.{_+_, _*_, _^_, _≤_, _<_}
+use lib.Dec.{lt→ltb}
+use lib.ListN.{length}
+use Rattle.mask.specs.Mask.{has}
+use Rattle.schedule.specs.Periodic.{LateSet}
+use Rattle.schedule.specs.Arrays.{tasksOf}
+use Rattle.schedule.specs.Response.{lateTest}
+use Rattle.schedule.proofs.Says.{says-yes, says-no}
+use Rattle.conflict.proofs.Counting.{late-is}
+use Rattle.nogoods.specs.Nogoods.{cacheAfter}
+use Rattle.nogoods.proofs.Growth.{covered-yes, covered-no}
+use Rattle.nogoods.proofs.Testing.{test-is, cache-asked, cache-looked, unchanged, in-time}
+use Rattle.nogoods.proofs.Append.{list-appended, grows-append, nogoods-append, covered-append}
+use Rattle.nogoods.proofs.test.Statement.{statement}
+use Rattle.nogoods.proofs.test.Tie as tie
+
+-- the answer on lateness is the test by responses
+by-test : (c : tie.After-is-late) → let z = c .before .before .before .args in c .is-late .result ≡ lateTest (tasksOf (z .n) (z .timing .now)) (has (z .set))
+by-test c = late-is (c .before .before .before .pre .0) (c .is-late .result) (c .is-late .ensures .0)
+
+late : (c : tie.Else1) → let z = c .before .before .before .before .args in LateSet (tasksOf (z .n) (z .timing .now)) (has (z .set))
+late c = let b = c .before .is-late in says-yes (b .result) _ (b .ensures .0) (not-false (b .result) (c .if1 .left))
+
+-- it is late, and conflicts are listed
+both : (c : tie.Else2) → let b = c .before .before .before in (b .is-late .result ≡ true) × (b .before .before .before .args .mode .listing ≡ true)
+both c = let l = c .before .before in (not-false (l .before .is-late .result) (l .if1 .left), not-false (l .before .before .before .before .args .mode .listing) (c .if2 .left))
+
+-- the cache of tested sets once a conflict within the set was looked for
+after : (c : tie.After-covered) → let z = c .before .before .before .before .before .before .before .before .before .args in
+    c .covered .last .1 .1 .1 .0 ≡ cacheAfter (tasksOf (z .n) (z .timing .now)) (z .mode) (z .set) (z .list .now) (z .count) (z .lateness .now)
+after c =
+    let e = c .before .before .before in
+    let b = e .before .before .before in
+    let yes = both e in
+    cache-looked (b .before .before .before .pre .1) _ _ (by-test b) _ (rw (yes .0, yes .1) refl) (b .is-late .ensures .2) (c .covered .ensures .2)
+
+pub test-spec : {M : Type 1} → statement M
+test-spec =
+    tie.close
+    (tie.spec
+    (λ c κs. search needs)  -- is-late-requires
+    (λ c. let b = c .before .is-late in
+    let z = c .before .before .before .before in
+    let a = z .args in
+    let w = z .pre .1 in
+    let no = not-true (b .result) (c .if1 .taken) in (
+      unchanged w _ _ (test-is w _ _ (sym no ∙ by-test (c .before)) refl refl refl) (in-time w (a .mode) (a .set) (says-no (b .result) _ (b .ensures .0) no)),
+      b .ensures .1,
+      cache-asked w _ _ (by-test (c .before)) _ (rw no refl) (b .ensures .2),
+    ))  -- returns
+    (λ c. let l = c .before .before in
+    let z = l .before .before .before .before in
+    let w = z .pre .1 in
+    let b = l .before .is-late in
+    let yes = not-false (b .result) (l .if1 .left) in
+    let no = not-true (z .args .mode .listing) (c .if2 .taken) in (
+      unchanged w _ _ (test-is w _ _ (sym yes ∙ by-test (l .before)) (sym no) refl refl) (rw no (late l)),
+      b .ensures .1,
+      cache-asked w _ _ (by-test (l .before)) _ (rw (yes, no) refl) (b .ensures .2),
+    ))  -- returns-2
+    (λ c κs. search needs)  -- covered-requires
+    (λ c. search needs)  -- same-length
+    (λ c.
+    let e = c .before .before .before .before in
+    let b = e .before .before .before in
+    let z = b .before .before .before in
+    let w = z .pre .1 in
+    let a = z .args in
+    let yes = both e in
+    let v = c .before .covered in (
+      unchanged w _ _ (test-is w _ _ (sym (yes .0) ∙ by-test b) (sym (yes .1)) (sym (c .if3 .taken) ∙ v .ensures .0) refl)
+          (rw (yes .1) (covered-yes (a .list .now) (a .count) (a .set) (v .ensures .0) (c .if3 .taken))),
+      v .ensures .1 _ (b .is-late .ensures .1),
+      after (c .before),
+    ))  -- returns-3
+    (λ c. search needs)  -- mul-if4
+    (λ c. search needs)  -- add-if4
+    (λ c. search needs)  -- same-length-2
+    (λ c.
+    let n = c .before in
+    let e = n .before .before .before .before in
+    let b = e .before .before .before in
+    let z = b .before .before .before in
+    let w = z .pre .1 in
+    let a = z .args in
+    let yes = both e in
+    let v = n .before .covered in (
+      unchanged w _ _ (test-is w _ _ (sym (yes .0) ∙ by-test b) (sym (yes .1)) (sym (n .if3 .left) ∙ v .ensures .0) (sym (lt-ltb _ _ (c .if4 .taken))))
+          (rw (yes .1) (inr (lt→ltb _ _ (c .if4 .taken), covered-no (a .list .now) (a .count) (a .set) (v .ensures .0) (n .if3 .left)))),
+      v .ensures .1 _ (b .is-late .ensures .1),
+      after (n .before),
+    ))  -- returns-4
+    (λ c κs. (search needs, late (c .before .before .before .before .before .before .before)))  -- extract-requires
+    (λ c κs. search needs)  -- append-requires
+    (λ c. search needs)  -- add-t16
+    (λ c. search needs)  -- same-length-3
+    (λ c.
+    let m = c .before .before .before .before in
+    let n = m .before .before in
+    let e = n .before .before .before .before in
+    let b = e .before .before .before in
+    let z = b .before .before .before in
+    let a = z .args in
+    let w = z .pre .1 in
+    let yes = both e in
+    let v = n .before .covered in
+    let free : 6 * a .count + 9 ≤ length (a .list .now) = search needs in
+    let fits : m .extract .result < 2 ^ 32 = search needs in
+    let new = c .before .before .append .ensures in (
+      record {
+        value = test-is w _ _ (sym (yes .0) ∙ by-test b) (sym (yes .1)) (sym (n .if3 .left) ∙ v .ensures .0) (sym (le-ltb _ _ free));
+        bytes = list-appended w free fits new;
+        list = record {
+          nogoods = nogoods-append w free fits new (m .extract .ensures) (covered-no (a .list .now) (a .count) (a .set) (v .ensures .0) (n .if3 .left));
+          grows = grows-append w free fits new (m .extract .ensures .inside);
+        };
+        verdict = rw (yes .1) (covered-append w free fits new (m .extract .ensures .inside));
+      },
+      v .ensures .1 _ (b .is-late .ensures .1),
+      after (n .before),
+    )))  -- returns-5

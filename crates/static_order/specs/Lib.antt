@@ -1,0 +1,2 @@
+pub mod StaticOrder
+pub mod Kept

@@ -1,2 +1,0 @@
-pub mod Twin
-pub mod Asks
