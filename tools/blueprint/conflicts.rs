@@ -34,16 +34,16 @@ impl Search<'_> {
         if !is_asked || self.listing_at_once != ListingAtOnce::Untried {
             return;
         }
-        let listed = self.ledger.conflicts.len();
+        let listed = self.nogoods.conflicts.len();
         let mut recursion = Recursion { sets_left: MOST_SETS, before: None, listed };
         let fits = !is_cut && self.list_supersets(&mut recursion, 0, 0);
-        self.ledger.conflicts.truncate(listed);
+        self.nogoods.conflicts.truncate(listed);
         self.listing_at_once = if fits { ListingAtOnce::Fits } else { ListingAtOnce::TooMany };
     }
 
     /// Lists all minimal late sets that a placement before the answer's can hold.
     pub fn list_at_once(&mut self, answer: &Answer) {
-        let listed = self.ledger.conflicts.len();
+        let listed = self.nogoods.conflicts.len();
         let before = answer.found.then_some(&answer.placement);
         let mut recursion = Recursion { sets_left: u64::MAX, before, listed };
         let fits = self.list_supersets(&mut recursion, 0, 0);
@@ -75,13 +75,13 @@ impl Search<'_> {
     /// False if there is no place for it.
     fn list_if_minimal(&mut self, recursion: &Recursion, rest: u32, late: u32) -> bool {
         let is_minimal = members(rest).all(|task| !self.is_late(late & !(1 << task)));
-        let is_listed = |search: &Self| search.ledger.conflicts[..recursion.listed].contains(&late);
+        let is_listed = |search: &Self| search.nogoods.conflicts[..recursion.listed].contains(&late);
         if !is_minimal || !self.is_held_before(late, recursion.before) || is_listed(self) {
             return true;
         }
-        let has_place = !self.ledger.is_full();
+        let has_place = !self.nogoods.is_full();
         if has_place {
-            self.ledger.conflicts.push(late);
+            self.nogoods.conflicts.push(late);
         }
         has_place
     }

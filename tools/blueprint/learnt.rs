@@ -2,7 +2,7 @@
 //! of zeros says nothing. They are lent to the search: new memory from the system would cost a quick search half of
 //! its time.
 
-use crate::memo::{self, Entry};
+use crate::bound_cache::{self, Entry};
 use crate::steps::Steps;
 
 pub struct Learnt {
@@ -12,7 +12,7 @@ pub struct Learnt {
     pub hints: Vec<u32>,
     /// For a full list: sets, each with one bit below that says whether it holds a listed conflict.
     pub covered: Vec<u32>,
-    pub memo: Vec<Entry>,
+    pub bound_cache: Vec<Entry>,
 }
 
 pub const HINT_BITS: u32 = 13;
@@ -24,7 +24,7 @@ impl Learnt {
             known: vec![0; 1 << steps.known_bits()],
             hints: vec![0; 1 << HINT_BITS],
             covered: vec![0; 1 << COVERED_BITS],
-            memo: vec![Entry::default(); 1 << memo::PLACE_BITS],
+            bound_cache: vec![Entry::default(); 1 << bound_cache::PLACE_BITS],
         }
     }
 
@@ -32,6 +32,6 @@ impl Learnt {
         self.known.fill(0);
         self.hints.fill(0);
         self.covered.fill(0);
-        self.memo.fill(Entry::default());
+        self.bound_cache.fill(Entry::default());
     }
 }

@@ -4,7 +4,7 @@
 //! with step D the network's capacity has a multiplier too, the price. All in whole numbers.
 
 use crate::guide::{BOTH, Row};
-use crate::packing::sum_of;
+use crate::knapsack::sum_of;
 use crate::search::Search;
 use crate::state::State;
 use crate::table::{PROCESSORS, TASKS, members};

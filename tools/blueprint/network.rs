@@ -2,8 +2,8 @@
 //! worth the weights of its tasks and the price of every message within the processor; the processors together must
 //! be worth the weights of all open tasks and the price of all traffic that the network cannot carry.
 
+use crate::knapsack::{Best, Site};
 use crate::multipliers::{Multipliers, Packed};
-use crate::packing::{Best, Site};
 use crate::search::Search;
 use crate::state::State;
 use crate::table::{PROCESSORS, TASKS, members};

@@ -9,16 +9,16 @@
 //! The second counts what was done.
 
 mod bound;
+mod bound_cache;
 mod conflicts;
 mod first;
 mod guide;
+mod knapsack;
 mod lateness;
 mod learnt;
-mod ledger;
-mod memo;
 mod multipliers;
 mod network;
-mod packing;
+mod nogoods;
 mod search;
 mod state;
 mod steps;
@@ -66,7 +66,7 @@ struct Searched {
 fn searched(table: &Table, guide: &Guide, steps: Steps, learnt: &mut Learnt) -> Searched {
     let mut search = Search::new(table, guide, steps, learnt, (ANSWER_BYTES - table.tasks - 5) / 6);
     let answer = search.answer();
-    Searched { answer, conflicts: search.ledger.conflicts.len(), counts: search.counts }
+    Searched { answer, conflicts: search.nogoods.conflicts.len(), counts: search.counts }
 }
 
 fn print(seconds: f64, table: &Table, Searched { answer, conflicts, counts }: &Searched) {

@@ -3,8 +3,8 @@
 use crate::conflicts::ListingAtOnce;
 use crate::guide::Guide;
 use crate::learnt::Learnt;
-use crate::ledger::Ledger;
 use crate::multipliers::Rows;
+use crate::nogoods::Nogoods;
 use crate::state::State;
 use crate::steps::Steps;
 use crate::table::{PROCESSORS, TASKS, Table, members};
@@ -35,7 +35,7 @@ pub struct Search<'a> {
     pub steps: Steps,
     pub counts: Counts,
     pub learnt: &'a mut Learnt,
-    pub ledger: Ledger,
+    pub nogoods: Nogoods,
     /// Whether conflicts are listed, so that a late set counts only with a listed conflict in it.
     pub listing: bool,
     pub listing_at_once: ListingAtOnce,
@@ -88,7 +88,7 @@ impl<'a> Search<'a> {
             steps,
             counts: Counts::default(),
             learnt,
-            ledger: Ledger::new(places),
+            nogoods: Nogoods::new(places),
             listing: false,
             listing_at_once: ListingAtOnce::Untried,
             notes,

@@ -6,7 +6,7 @@ use crate::state::State;
 use crate::table::members;
 
 /// Minimal late sets, in as many places as the answer has for them.
-pub struct Ledger {
+pub struct Nogoods {
     pub conflicts: Vec<u32>,
     pub places: usize,
 }
@@ -16,9 +16,9 @@ fn place_of(set: u32, bits: u32) -> usize {
     (set.wrapping_mul(2_654_435_761) >> (32 - bits)) as usize
 }
 
-impl Ledger {
-    pub fn new(places: usize) -> Ledger {
-        Ledger { conflicts: Vec::with_capacity(places), places }
+impl Nogoods {
+    pub fn new(places: usize) -> Nogoods {
+        Nogoods { conflicts: Vec::with_capacity(places), places }
     }
 
     pub fn is_full(&self) -> bool {
@@ -41,7 +41,7 @@ impl Search<'_> {
 
     /// Whether a set holds a listed conflict.
     fn is_covered(&mut self, set: u32) -> bool {
-        if self.steps.covered_sets && self.ledger.is_full() {
+        if self.steps.covered_sets && self.nogoods.is_full() {
             self.is_covered_for_good(set)
         } else {
             self.is_covered_now(set)
@@ -63,10 +63,10 @@ impl Search<'_> {
     fn is_covered_now(&mut self, set: u32) -> bool {
         let hint = &mut self.learnt.hints[place_of(set, HINT_BITS)];
         let within = |conflict: &u32| conflict & !set == 0;
-        if self.ledger.conflicts.get(*hint as usize).is_some_and(within) {
+        if self.nogoods.conflicts.get(*hint as usize).is_some_and(within) {
             return true;
         }
-        let found = self.ledger.conflicts.iter().position(within);
+        let found = self.nogoods.conflicts.iter().position(within);
         if let Some(number) = found {
             *hint = number as u32;
         }
@@ -82,15 +82,15 @@ impl Search<'_> {
         if !self.listing || self.is_covered(set) {
             return true;
         }
-        let has_place = !self.ledger.is_full();
+        let has_place = !self.nogoods.is_full();
         if has_place {
-            self.ledger.conflicts.push(self.table.minimal_within(set));
+            self.nogoods.conflicts.push(self.table.minimal_within(set));
         }
         has_place
     }
 
     pub fn lists_in_full(&self) -> bool {
-        self.listing && self.ledger.is_full()
+        self.listing && self.nogoods.is_full()
     }
 
     /// Whether the search would pass over a set; nothing is listed for it.

@@ -1,6 +1,6 @@
 //! Best packings that are kept: neighbouring regions differ in one processor, so that most are asked for again.
 
-use crate::packing::Best;
+use crate::knapsack::Best;
 use crate::search::Search;
 
 /// All that a best packing is worked out from, beside the table.
@@ -36,13 +36,13 @@ impl Search<'_> {
     /// While conflicts are listed nothing is recalled: what closes a set changes with the list, and the conflicts
     /// would still have to be listed.
     pub fn recalled(&self, key: &Key) -> Option<Best> {
-        let (kept, best) = &self.learnt.memo[key.place()];
+        let (kept, best) = &self.learnt.bound_cache[key.place()];
         (!self.listing && kept == key).then_some(*best)
     }
 
     pub fn keep(&mut self, key: Key, best: Best) {
         if !self.listing {
-            self.learnt.memo[key.place()] = (key, best);
+            self.learnt.bound_cache[key.place()] = (key, best);
         }
     }
 }
