@@ -1,6 +1,6 @@
 // The capacity bound: the open tasks weigh more than all processors together can take.
 ghost use mathlib.Core.Path.{_≡_};
-ghost use Prim.Native.Nat.{ℕ, _≤_, _<_, min};
+ghost use Prim.Native.Nat.{ℕ, _≤_, _<_};
 ghost use lib.Dec.{T};
 ghost use lib.ListN.{length, getD};
 ghost use mathlib.Core.Bool.{false};
@@ -19,6 +19,7 @@ use knapsack::Pack;
 use knapsack::Packed;
 use late_cache::LateCache;
 use nogoods::Mode;
+use numbers::lower;
 use numbers::wide;
 use partial::Sizes;
 use partial::State;
@@ -31,16 +32,6 @@ use schedule::Timing;
 pub struct Bounded {
     pub hopeless: bool,
     pub count: usize,
-}
-
-// The lower of two numbers.
-fn lower(a: u64, b: u64) -> u64
-    ensures { λ r. ⌜ r ≡ min a b ⌝ }
-{
-    if a < b {
-        return a;
-    }
-    b
 }
 
 // The weight of a set of tasks.

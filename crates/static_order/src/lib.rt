@@ -1,12 +1,13 @@
 // The rows that guide the search: how large each task is, the tasks in that order, and how hard each is to place.
 // No answer rests on these numbers, only how long the search takes.
 ghost use mathlib.Core.Path.{_≡_};
-ghost use Prim.Native.Nat.{_≤_, _<_, min};
+ghost use Prim.Native.Nat.{_≤_, _<_};
 ghost use lib.Dec.{ltb};
 ghost use Rattle.finite.specs.Finite.{only};
 ghost use Rattle.schedule.specs.Arrays.{InLimits};
 ghost use Rattle.static_order.specs.StaticOrder.{short, sumOf, millionthsOf, weightsOf, scaledOf, bulkOf, densityOf};
 ghost use Rattle.static_order.specs.StaticOrder.{messageWeight, messagesWeight, baseOf, basesOf, orderedOf};
+use numbers::lower;
 use numbers::wide;
 use partial::Sizes;
 use partial::State;
@@ -31,13 +32,6 @@ fn short(x: u64) -> u64
     x % 1099511627776
 }
 
-// x, but no more than most.
-fn limited(x: u64, most: u64) -> u64
-    ensures { λ r. ⌜ r ≡ min x most ⌝ }
-{
-    if most < x { most } else { x }
-}
-
 // What all processors have together.
 fn sum_of(rooms: [u64; 8]) -> u64
     ensures { λ r. ⌜ (r ≡ sumOf rooms) × (r ≤ 8796093022208) ⌝ }
@@ -56,7 +50,7 @@ fn millionths(x: u64, all: u64) -> u64
     requires { ⌜ all ≤ 8796093022208 ⌝ }
     ensures { λ r. ⌜ (r ≡ millionthsOf x all) × (r ≤ 1000000) ⌝ }
 {
-    limited(short(x) * 1000000 / (all + 1), 1000000)
+    lower(short(x) * 1000000 / (all + 1), 1000000)
 }
 
 // The millionths of all load and of all memory that each task takes, together.
@@ -83,7 +77,7 @@ fn scaled(part: u64, processors: usize) -> u64
     requires { ⌜ (part ≤ 1000000) × (processors ≤ 8) ⌝ }
     ensures { λ r. ⌜ (r ≡ scaledOf part processors) × (r ≤ 256) ⌝ }
 {
-    limited(part * (processors as u64) * 32 / 1000000, 256)
+    lower(part * (processors as u64) * 32 / 1000000, 256)
 }
 
 // The load or the memory of task k, whichever is the larger share.
@@ -115,7 +109,7 @@ fn density(work: u32, deadline: u32) -> u64
     if deadline == 0 {
         return 16;
     }
-    limited(wide(work) * 16 / wide(deadline), 16)
+    lower(wide(work) * 16 / wide(deadline), 16)
 }
 
 // A message of the task as a share of the network, in 32nds.
@@ -127,7 +121,7 @@ fn message_weight(from: u64, to: u64, task: u64, amount: u64, capacity: u64) -> 
             return 0;
         }
     }
-    limited(
+    lower(
         amount % 1125899906842624 * 32 / (capacity % 4611686018427387904 + 1),
         4096,
     )

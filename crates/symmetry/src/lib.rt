@@ -1,6 +1,6 @@
 // An earlier processor that can stand in for another: below a state both allow the same, so only one of them need be searched.
 ghost use mathlib.Core.Path.{_≡_};
-ghost use Prim.Native.Nat.{ℕ, _<_, min};
+ghost use Prim.Native.Nat.{ℕ, _<_};
 ghost use lib.Dec.{T, leb};
 ghost use lib.ListN.{getD};
 ghost use Rattle.mask.specs.Mask.{below, sumOver};
@@ -8,22 +8,13 @@ ghost use Rattle.table.specs.declared.Table.{Table};
 ghost use Rattle.schedule.specs.Arrays.{Says};
 ghost use Rattle.symmetry.specs.Symmetry.{SameResidence, Interchangeable, Representative};
 ghost use Rattle.symmetry.specs.Asks.{Asks, SaysAlike};
+use numbers::lower;
 use numbers::wide;
 use partial::State;
 use rows::LOAD;
 use rows::MEMORY;
 use rows::RESIDENCE;
 use rows::Rows;
-
-// The lesser of two rooms.
-fn lesser(a: u64, b: u64) -> u64
-    ensures { λ r. ⌜ r ≡ min a b ⌝ }
-{
-    if a < b {
-        return a;
-    }
-    b
-}
 
 // Whether what all tasks in the set need, by the row, fits the room; left at the first that does not.
 fn ample(row: &[u32; 24], set: u32, room: u64) -> bool
@@ -68,7 +59,7 @@ fn alike(row: &[u32; 24], set: u32, a: u64, b: u64) -> bool
     if a == b {
         return true;
     }
-    ample(row, set, lesser(a, b))
+    ample(row, set, lower(a, b))
 }
 
 // Whether processor q below the empty processor p is interchangeable with it: the cheap tests first.

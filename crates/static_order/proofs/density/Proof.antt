@@ -12,10 +12,10 @@ density-spec =
     (tie.spec
     (λ c. (rw (eq-eqb _ _ (c .if1 .taken)), search needs))  -- returns
     (λ c κs. search needs)  -- wide-requires
-    (λ c. search needs)  -- mul-limited
+    (λ c. search needs)  -- mul-lower
     (λ c κs. search needs)  -- wide-requires-2
-    (λ c. search needs)  -- div-limited
-    (λ c κs. search needs)  -- limited-requires
+    (λ c. search needs)  -- div-lower
+    (λ c κs. search needs)  -- lower-requires
     (λ c.
     let w = c .before in
-    (rw (ne-eqb _ _ (w .before .before .if1 .left), c .limited .ensures, w .before .wide .ensures .0, w .wide2 .ensures .0), search needs)))  -- returns-2
+    (rw (ne-eqb _ _ (w .before .before .if1 .left), c .lower .ensures, w .before .wide .ensures .0, w .wide2 .ensures .0), search needs)))  -- returns-2

@@ -19,8 +19,8 @@ message-weight-spec =
     tie.close
     (tie.spec
     (λ c. (rw (ne-eqb _ _ (c .before .if1 .taken), ne-eqb _ _ (c .if2 .taken)), search needs))  -- returns
-    (λ c. search needs)  -- mul-limited
-    (λ c. search needs)  -- add-limited
-    (λ c. search needs)  -- div-limited
-    (λ c κs. search needs)  -- limited-requires
-    (λ c. (rw (concerned (c .before)) (c .limited .ensures), search needs)))  -- returns-2
+    (λ c. search needs)  -- mul-lower
+    (λ c. search needs)  -- add-lower
+    (λ c. search needs)  -- div-lower
+    (λ c κs. search needs)  -- lower-requires
+    (λ c. (rw (concerned (c .before)) (c .lower .ensures), search needs)))  -- returns-2

@@ -11,8 +11,8 @@ millionths-spec =
     tie.close
     (tie.spec
     (λ c κs. search needs)  -- short-requires
-    (λ c. search needs)  -- mul-limited
-    (λ c. search needs)  -- add-limited
-    (λ c. search needs)  -- div-limited
-    (λ c κs. search needs)  -- limited-requires
-    (λ c. (c .limited .ensures ∙ rw (c .before .short .ensures), search needs)))  -- returns
+    (λ c. search needs)  -- mul-lower
+    (λ c. search needs)  -- add-lower
+    (λ c. search needs)  -- div-lower
+    (λ c κs. search needs)  -- lower-requires
+    (λ c. (c .lower .ensures ∙ rw (c .before .short .ensures), search needs)))  -- returns

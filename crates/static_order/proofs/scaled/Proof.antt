@@ -11,7 +11,7 @@ unfolding scaledOf
 scaled-spec =
     tie.close
     (tie.spec
-    (λ c. record { fits = omega (arith, mul-le-mul {n₁ = c .args .part} {m₁ = c .args .processors} {n₂ = 1000000} {m₂ = 8} (c .pre .0) (c .pre .1)) })  -- mul-limited
-    (λ c. record { fits = omega (arith, mul-le-mul {n₁ = c .args .part} {m₁ = c .args .processors} {n₂ = 1000000} {m₂ = 8} (c .pre .0) (c .pre .1)) })  -- mul-limited-2
-    (λ c κs. search needs)  -- limited-requires
-    (λ c. (c .limited .ensures, search needs)))  -- returns
+    (λ c. record { fits = omega (arith, mul-le-mul {n₁ = c .args .part} {m₁ = c .args .processors} {n₂ = 1000000} {m₂ = 8} (c .pre .0) (c .pre .1)) })  -- mul-lower
+    (λ c. record { fits = omega (arith, mul-le-mul {n₁ = c .args .part} {m₁ = c .args .processors} {n₂ = 1000000} {m₂ = 8} (c .pre .0) (c .pre .1)) })  -- mul-lower-2
+    (λ c κs. search needs)  -- lower-requires
+    (λ c. (c .lower .ensures, search needs)))  -- returns

@@ -10,6 +10,6 @@ alike-spec =
     tie.close
     (tie.spec
     (λ c n b. inl (c .if1 .taken))  -- returns
-    (λ c κs. search needs)  -- lesser-requires
+    (λ c κs. search needs)  -- lower-requires
     (λ c κs. search needs)  -- ample-requires
-    (λ c n b. rooms-alike _ _ (c .before .before .if1 .left) (c .before .lesser .ensures) (c .ample .ensures n b)))  -- returns-2
+    (λ c n b. rooms-alike _ _ (c .before .before .if1 .left) (c .before .lower .ensures) (c .ample .ensures n b)))  -- returns-2
