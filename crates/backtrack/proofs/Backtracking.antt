@@ -3,14 +3,15 @@ use mathlib.Core.Path.{_≡_, refl, sym, subst, _∙_}
 use mathlib.Core.Logic.{_⊎_, inl, inr, ⊎-elim}
 use mathlib.Core.Bool.{Bool, true, false, false≢true}
 use mathlib.Core.List.{List}
-use Prim.Native.Nat.{ℕ, zero, suc, _+_, _≤_, _<_}
+use Prim.Native.Nat.{ℕ, zero, suc, _+_, _^_, _≤_, _<_}
 use native.Mathlib.Decide.{ℕ-discrete, decLe}
 use native.Mathlib.Omega.{arith}
-use lib.Dec.{T}
+use lib.Dec.{T, ltb→lt}
 use lib.ListN.{getD}
-use Rattle.mask.specs.Mask.{has}
-use Rattle.mask.proofs.Laws.{remove-lt}
+use Rattle.mask.specs.Mask.{has, below}
+use Rattle.mask.proofs.Laws.{remove-lt, has-below}
 use Rattle.table.specs.declared.Table.{Table}
+use Rattle.table.specs.Sound.{Sound}
 use Rattle.rules.specs.Placement.{andTask}
 use Rattle.rules.specs.Sets.{standing}
 use Rattle.timing.specs.Timing.{tasksIn}
@@ -28,6 +29,8 @@ use Rattle.symmetry.proofs.Swap.{swap-refuted}
 use Rattle.capacity_bound.specs.declared.Bounded.{Bounded}
 use Rattle.capacity_bound.specs.Bound.{BoundedAs}
 use Rattle.entering.specs.declared.Entered.{Entered}
+use Rattle.branching.specs.Branching.{pickOf}
+use Rattle.branching.proofs.Picking.{picked-open}
 use Rattle.backtrack.specs.declared.Backtracked.{Backtracked}
 use Rattle.entering.specs.Entering.{EntersAs, EnteredAs}
 use Rattle.backtrack.specs.Backtrack.{BacktrackedIn, Passed, ExploredAs}
@@ -54,13 +57,35 @@ module _ {t : Table} {mode : Mode} {s : State} {list : List ℕ} {count : ℕ} (
 -- what a bound leaves
 module _ {t : Table} {mode : Mode} {s : State} {old mid : List ℕ} {before : ℕ} (r : Bounded) (w : BoundedAs t mode s old before mid r) where
   pub bounded-begins : Begins t mode s old before → Begins t mode s mid (r .count)
-  bounded-begins b = record { fits = b .fits; nogoods = w .list .nogoods; clear = λ q. clear-grows (mode .listing) (has (getD (s .on) q 0)) (w .list) (b .clear q) }
+  bounded-begins b = record { fits = b .fits; nogoods = w .list .nogoods; clear = λ q. clear-grows (mode .listing) (has (getD (s .on) q 0)) (w .list) (b .clear q); narrowed = b .narrowed }
 
   pub bounded-hopeless : r .hopeless ≡ true → (sets : List ℕ) → BacktrackedIn t mode (standing (s .on)) old before mid (record { found = false; none = true; on = sets; count = r .count })
   bounded-hopeless e sets = record { list = w .list; placement = λ f. absurd (false≢true f); nothing = λ f. w .answer e; certain = λ l f. refl }
 
   pub bounded-then : {new : List ℕ} (x : Backtracked) → BacktrackedIn t mode (standing (s .on)) mid (r .count) new x → BacktrackedIn t mode (standing (s .on)) old before new x
   bounded-then x y = record { list = extended-trans (w .list) (y .list); placement = y .placement; nothing = y .nothing; certain = y .certain }
+
+-- an open task is one of 24
+module _ {t : Table} (h : Sound t) {s : State} (fits : Fits t s) where
+  pub open-low : (k : ℕ) → T (has (s .left) k) → k < 24
+  open-low k waits = omega (arith, fits .open-task k waits .0, h .tasks .most)
+
+  pub open-below : T (below 24 (s .left))
+  open-below = has-below 24 (s .left) open-low
+
+  -- the task that is picked is open
+  pub picked-waits : (base may : List ℕ) (processors : ℕ) (heuristics : List (List ℕ)) {k : ℕ} → k ≡ pickOf base processors (s .left) may heuristics .task → 0 < s .left → T (has (s .left) k)
+  picked-waits base may processors heuristics e some = rw e (picked-open base may processors (s .left) heuristics some (omega (arith, ltb→lt (s .left) (2 ^ 24) open-below)))
+
+-- where nothing is listed, the task may not stand there
+pub explored-narrowed : {t : Table} {mode : Mode} {s : State} (k : ℕ) {p : ℕ} {list : List ℕ} {count : ℕ} → Begins t mode s list count → mode .listing ≡ false → T (has (s .left) k)
+    → p < t .processors .count → (T (has (getD (s .may) p 0) k) → ⊥) → (sets : List ℕ) → ExploredAs t mode s k p list count list (record { found = false; none = true; on = sets; count = count })
+explored-narrowed {t} {mode} {s} k {p} {list} {count} b quiet waits low out sets = record {
+  list = extended-refl (b .nogoods);
+  placement = λ e. absurd (false≢true e);
+  nothing = λ e. inl (subst (λ (x : Bool). Refuted t (Bad (tasksIn t) x list count) (Within (andTask (standing (s .on)) k p))) (sym quiet) (b .narrowed quiet p low .others k waits out));
+  certain = λ y e. refl;
+}
 
 -- a lower processor can stand in for p
 pub explored-symmetric : {t : Table} {mode : Mode} {s : State} (k : ℕ) {p q : ℕ} {list : List ℕ} {count : ℕ} → Begins t mode s list count → Representative t s p q → (q ≡ p → ⊥) → (sets : List ℕ)
@@ -75,21 +100,21 @@ module _ {t : Table} {mode : Mode} {s : State} {k p : ℕ} {old mid : List ℕ} 
   explored-closed f sets = record {
     list = w .list;
     placement = λ g. absurd (false≢true g);
-    nothing = λ g. inl (subst (λ (b : Bool). EntersAs b t mode s k p mid (e .count) (e .next)) f (w .answer));
+    nothing = λ g. inl (subst (λ (b : Bool). EntersAs (λ n. Begins t mode n mid (e .count)) b t mode s k p mid (e .count) (e .next)) f (w .answer));
     certain = λ l g. refl;
   }
 
   pub explored-begins : e .passes ≡ true → Begins t mode (e .next) mid (e .count)
-  explored-begins f = subst (λ (b : Bool). EntersAs b t mode s k p mid (e .count) (e .next)) f (w .answer) .1
+  explored-begins f = subst (λ (b : Bool). EntersAs (λ n. Begins t mode n mid (e .count)) b t mode s k p mid (e .count) (e .next)) f (w .answer) .1
 
   pub explored-falls : e .passes ≡ true → T (has (s .left) k) → e .next .left < s .left
   explored-falls f u =
-      let step = subst (λ (b : Bool). EntersAs b t mode s k p mid (e .count) (e .next)) f (w .answer) .0 in
+      let step = subst (λ (b : Bool). EntersAs (λ n. Begins t mode n mid (e .count)) b t mode s k p mid (e .count) (e .next)) f (w .answer) .0 in
       rw (step .left) (remove-lt (s .left) k u)
 
   pub explored-open : e .passes ≡ true → {new : List ℕ} (r : Backtracked) → BacktrackedIn t mode (standing (e .next .on)) mid (e .count) new r → ExploredAs t mode s k p old before new r
   explored-open f {new} r x =
-      let step = subst (λ (b : Bool). EntersAs b t mode s k p mid (e .count) (e .next)) f (w .answer) .0 in
+      let step = subst (λ (b : Bool). EntersAs (λ n. Begins t mode n mid (e .count)) b t mode s k p mid (e .count) (e .next)) f (w .answer) .0 in
       let y = subst (λ (on : ℕ → ℕ → Bool). BacktrackedIn t mode on mid (e .count) new r) (step .on) x in
       record { list = extended-trans (w .list) (y .list); placement = y .placement; nothing = λ g. inl (y .nothing g); certain = y .certain }
 
@@ -118,7 +143,7 @@ backtracking-start b k first m n = record { list = extended-refl (b .nogoods); p
 
 module _ {t : Table} {mode : Mode} {s : State} {k : ℕ} {old : List ℕ} {before first m i : ℕ} {list : List ℕ} {at : ℕ} (w : Backtracking t mode s k old before first m i list at) where
   pub backtracking-begins : Begins t mode s old before → Begins t mode s list at
-  backtracking-begins b = record { fits = b .fits; nogoods = w .list .nogoods; clear = λ q. clear-grows (mode .listing) (has (getD (s .on) q 0)) (w .list) (b .clear q) }
+  backtracking-begins b = record { fits = b .fits; nogoods = w .list .nogoods; clear = λ q. clear-grows (mode .listing) (has (getD (s .on) q 0)) (w .list) (b .clear q); narrowed = b .narrowed }
 
   -- what processor p gives
   module _ {p : ℕ} {new : List ℕ} (r : Backtracked) (x : ExploredAs t mode s k p list at new r) where

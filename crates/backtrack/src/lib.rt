@@ -13,10 +13,12 @@ ghost use Rattle.backtrack.specs.Backtrack.{ExploredAs, BacktrackedIn};
 use bound_cache::BoundCache;
 use heuristics::FUEL;
 use heuristics::Heuristics;
+use heuristics::NUMBERS;
 use late_cache::LateCache;
 use nogoods::Mode;
 use partial::Sizes;
 use partial::State;
+use rows::BASE;
 use rows::Messages;
 use rows::Rows;
 use schedule::Timing;
@@ -30,18 +32,19 @@ pub struct Backtracked {
     pub count: usize,
 }
 
-// Whether the search gives up: it is limited, and its fuel is used up. Otherwise one unit is used.
+// Whether the search gives up: it is limited, and its fuel is used up. Otherwise one unit is used. Each node is counted.
 fn gives_up(limited: bool, heuristics: &mut Heuristics) -> bool
     ensures { λ r. ⌜ (r ≡ true → limited ≡ true) ⌝ }
 {
+    heuristics::count_node(heuristics);
     if !limited {
         return false;
     }
-    let fuel = heuristics[FUEL];
+    let fuel = heuristics[NUMBERS][FUEL];
     if fuel == 0 {
         return true;
     }
-    heuristics[FUEL] = fuel - 1;
+    heuristics[NUMBERS][FUEL] = fuel - 1;
     false
 }
 
@@ -65,7 +68,8 @@ fn turned(first: usize, i: usize, m: usize) -> usize
     p - m
 }
 
-// The region below the open task k on processor p. It is passed over where a lower processor can stand in for p.
+// The region below the open task k on processor p. It is passed over where nothing is listed and the task may not stand there,
+// and where a lower processor can stand in for p.
 fn explore<'a>(
     timing: &'a Timing,
     rows: &'a Rows,
@@ -88,6 +92,16 @@ fn explore<'a>(
         (λ t. ExploredAs t mode s k p (now (list .entry)) count (now (list .exit)) r × Learnt t (now (rows .entry)) (now (lateness .exit)) (now (bounds .exit))) ⌝ }
 {
     let on = s.on;
+    if !mode.listing {
+        if !mask::has(s.may[p], k) {
+            return Backtracked {
+                found: false,
+                none: true,
+                on,
+                count,
+            };
+        }
+    }
     if symmetry::representative(rows, s, p) != p {
         return Backtracked {
             found: false,
@@ -154,18 +168,8 @@ fn branch<'a>(
         (λ t. BacktrackedIn t mode (standing (s .on)) (now (list .entry)) count (now (list .exit)) r × Learnt t (now (rows .entry)) (now (lateness .exit)) (now (bounds .exit))) ⌝ }
 {
     let on = s.on;
-    let k = branching::pick(
-        timing,
-        rows,
-        messages,
-        sizes,
-        s,
-        mode,
-        list,
-        count,
-        heuristics,
-        lateness,
-    );
+    let may = s.may;
+    let k = branching::pick(&rows[BASE], sizes.processors, s.left, &may, heuristics);
     let first = offset(sizes.processors, heuristics);
     let mut at = count;
     let mut i: usize = 0;

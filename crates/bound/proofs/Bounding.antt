@@ -1,70 +1,56 @@
--- The bound by the network, and one bound after another. Assumes nothing.
+-- The bound by the network, and after the candidates. Assumes nothing.
 use mathlib.Core.Path.{_≡_, sym, subst, _∙_}
-use mathlib.Core.Logic.{_⊎_, inl, inr}
-use mathlib.Core.Bool.{Bool, true, false, not, false≢true, true≢false}
+use mathlib.Core.Bool.{Bool, true, false, true≢false}
 use mathlib.Core.List.{List}
-use Prim.Native.Nat.{ℕ}
+use Prim.Native.Nat.{ℕ, _<_}
 use native.Mathlib.Omega.{arith}
-use borrow.Author.Tests.{ltb-true, not-true}
-use lib.Dec.{ltb}
 use Rattle.table.specs.declared.Table.{Table}
 use Rattle.table.specs.Sound.{Sound}
 use Rattle.timing.specs.Timing.{tasksIn}
 use Rattle.rows.specs.Rows.{exclusionsOf, messagesOf}
 use Rattle.nogoods.specs.declared.Mode.{Mode}
-use Rattle.nogoods.specs.Nogoods.{Nogoods, quiet}
+use Rattle.nogoods.specs.Nogoods.{Bad, quiet}
 use Rattle.nogoods.proofs.Growth.{extended-refl, extended-trans}
-use Rattle.nogoods.proofs.Verdicts.{bad-grows}
 use Rattle.partial.specs.declared.State.{State}
-use Rattle.region.specs.Begins.{Opens}
+use Rattle.region.specs.Begins.{Begins, Opens}
 use Rattle.candidates.specs.declared.Candidates.{Candidates}
-use Rattle.candidates.specs.Candidates.{CandidatesAs}
-use Rattle.candidates.proofs.Choosing.{choice-map}
+use Rattle.candidates.specs.Candidates.{Choices, CandidatesAs}
 use Rattle.candidates.proofs.Fairness.{refuted-fair}
+use Rattle.candidates.proofs.Keeping.{narrowed-choices}
 use Rattle.network_bound.specs.NetworkBound.{crossingOf}
 use Rattle.network_bound.proofs.Network.{crossing-fits}
 use Rattle.capacity_bound.specs.declared.Bounded.{Bounded}
 use Rattle.capacity_bound.specs.Bound.{BoundedAs}
 use Rattle.capacity_bound.specs.CapacityBound.{Weighable}
 
--- the candidates are there, and stay so while the list grows
+-- the candidates are there
 pub candidates-weighable : {t : Table} {mode : Mode} {s : State} {old mid : List ℕ} {before : ℕ} → Opens t s old before → (a : Candidates) → CandidatesAs t mode s old before mid a
     → Weighable t mode s (a .sets) mid (a .count)
 candidates-weighable o a u = record { fits = o .fits; nogoods = u .list .nogoods; choices = u .choices }
 
-pub weighable-then : {t : Table} {mode : Mode} {s : State} {sets old new : List ℕ} {before : ℕ} → Weighable t mode s sets old before → (b : Bounded) → BoundedAs t mode s old before new b
-    → Weighable t mode s sets new (b .count)
-weighable-then {t} {mode} w b u = record {
-  fits = w .fits;
-  nogoods = u .list .nogoods;
-  choices = λ p low. choice-map (λ y. bad-grows (tasksIn t) (mode .listing) y (u .list .grows)) (w .choices p low);
-}
-
 -- the network carries less than must cross it
 pub bounded-network : {t : Table} {mode : Mode} {s : State} (sets : List ℕ) {list : List ℕ} {count remote : ℕ} → Sound t → Weighable t mode s sets list count
-    → remote ≡ crossingOf (exclusionsOf t) (messagesOf t) (t .messages .count) s sets (t .processors .count)
-    → BoundedAs t mode s list count list (record { hopeless = ltb (s .traffic) remote; count = count })
-bounded-network {t} {mode} {s} sets {list} {count} {remote} h w e = record {
+    → remote ≡ crossingOf (exclusionsOf t) (messagesOf t) (t .messages .count) s sets (t .processors .count) → s .traffic < remote
+    → BoundedAs t mode s list count list (record { hopeless = true; count = count })
+bounded-network {t} {mode} {s} sets {list} {count} h w e low = record {
   list = extended-refl (w .nogoods);
-  answer = λ o. refuted-fair h (mode .listing) list count {s = s} (λ q fair. omega (arith, ltb-true (s .traffic) remote o, crossing-fits sets h (w .fits) (w .choices) fair));
+  answer = λ o. refuted-fair h (mode .listing) list count {s = s} (λ q fair. omega (arith, crossing-fits sets h (w .fits) (w .choices) fair));
 }
-
--- a region that is not given up
-pub bounded-not : {t : Table} {mode : Mode} {s : State} {list : List ℕ} {count : ℕ} → Nogoods (tasksIn t) list count
-    → BoundedAs t mode s list count list (record { hopeless = false; count = count })
-bounded-not w = record { list = extended-refl w; answer = λ e. absurd (false≢true e) }
 
 -- after the candidates
 pub bounded-from : {t : Table} {mode : Mode} {s : State} {old mid new : List ℕ} {before : ℕ} (a : Candidates) (b : Bounded) → CandidatesAs t mode s old before mid a
     → BoundedAs t mode s mid (a .count) new b → BoundedAs t mode s old before new b
 bounded-from a b u v = record { list = extended-trans (u .list) (v .list); answer = v .answer }
 
-pub bounded-then : {t : Table} {x y : Mode} {s : State} {old mid new : List ℕ} {before : ℕ} (a b : Bounded) → BoundedAs t x s old before mid a
-    → BoundedAs t y s mid (a .count) new b → BoundedAs t y s old before new b
-bounded-then a b u v = record { list = extended-trans (u .list) (v .list); answer = v .answer }
+-- without listing: it is right where it does not give the region up
+pub bounded-first : {t : Table} (mode : Mode) {s : State} {old new : List ℕ} {before : ℕ} (a : Bounded) → BoundedAs t (quiet (mode .limited)) s old before new a → a .hopeless ≡ false
+    → BoundedAs t mode s old before new a
+bounded-first mode a u e = record { list = u .list; answer = λ h. absurd (true≢false (sym h ∙ e)) }
 
--- without listing: it is right where no conflicts are listed, or where it does not give the region up
-pub bounded-first : {t : Table} (mode : Mode) {s : State} {old new : List ℕ} {before : ℕ} (a : Bounded) → BoundedAs t (quiet (mode .limited)) s old before new a → {again : Bool}
-    → (again ≡ a .hopeless) ⊎ (mode .listing ≡ false) → not again ≡ true → BoundedAs t mode s old before new a
-bounded-first mode a u (inl w) e = record { list = u .list; answer = λ h. absurd (true≢false (sym h ∙ sym w ∙ not-true _ e)) }
-bounded-first {t} mode {s} {old} {new} {before} a u (inr w) e = subst (λ (b : Bool). BoundedAs t (record { listing = b; limited = mode .limited }) s old before new a) (sym w) u
+-- where nothing is listed, the candidates are those that the state keeps
+pub narrowed-weighable : {t : Table} (mode : Mode) {s : State} {list : List ℕ} {count : ℕ} → Begins t mode s list count → mode .listing ≡ false → Weighable t mode s (s .may) list count
+narrowed-weighable {t} mode {s} {list} {count} b e = record {
+  fits = b .fits;
+  nogoods = b .nogoods;
+  choices = subst (λ (x : Bool). Choices t s (Bad (tasksIn t) x list count) (s .may)) (sym e) (narrowed-choices (b .narrowed e));
+}

@@ -31,10 +31,11 @@ use Rattle.partial.specs.declared.State.{State}
 use Rattle.partial.specs.Partial.{Fits}
 use Rattle.partial.proofs.OneMore.{residence-needed}
 use Rattle.region.specs.Region.{Within, Met}
+use Rattle.region.specs.Begins.{Eligible}
 use Rattle.region.proofs.Refuting.{and-within}
 use Rattle.candidates.specs.declared.Joining.{Joining}
 use Rattle.candidates.specs.declared.Chosen.{Chosen}
-use Rattle.candidates.specs.Candidates.{Fair, JoinsAs, Eligible, Choice, ChosenAs, CandidatesAs}
+use Rattle.candidates.specs.Candidates.{Fair, JoinsAs, Choice, ChosenAs, CandidatesAs}
 use Rattle.candidates.proofs.Meeting.{met-among}
 
 -- fair for more kinds of sets is fair for fewer

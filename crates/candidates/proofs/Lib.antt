@@ -1,3 +1,5 @@
 pub mod Meeting
 pub mod Choosing
 pub mod Fairness
+pub mod Filtering
+pub mod Keeping

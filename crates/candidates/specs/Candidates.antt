@@ -5,7 +5,7 @@ use mathlib.Core.List.{List}
 use Prim.Native.Nat.{ℕ, _<_}
 use lib.Dec.{T}
 use lib.ListN.{getD}
-use Rattle.mask.specs.Mask.{has, Subset}
+use Rattle.mask.specs.Mask.{has}
 use Rattle.table.specs.declared.Table.{Table}
 use Rattle.rules.specs.Placement.{placed}
 use Rattle.rules.specs.Rules.{Keeps}
@@ -16,6 +16,7 @@ use Rattle.partial.specs.declared.State.{State}
 use Rattle.nogoods.specs.declared.Mode.{Mode}
 use Rattle.nogoods.specs.Nogoods.{Extended, Bad}
 use Rattle.region.specs.Region.{Within, Met}
+use Rattle.region.specs.Begins.{Eligible}
 use Rattle.candidates.specs.declared.Joining.{Joining}
 use Rattle.candidates.specs.declared.Chosen.{Chosen}
 use Rattle.candidates.specs.declared.Candidates.{Candidates}
@@ -33,12 +34,7 @@ pub record JoinsAs (t : Table) (mode : Mode) (s : State) (k p : ℕ) (old : List
   pub able : r .able ≡ true → T (has (getD (t .tasks .residence) k 0) p)
   pub unable : r .able ≡ false → (q : List ℕ) → Fair t s (Bad (tasksIn t) (mode .listing) new (r .count)) q → T (placed q k p) → ⊥
 
--- open tasks that may reside on p
-pub record Eligible (t : Table) (s : State) (p set : ℕ) : Type 0 where
-  pub waits : Subset set (s .left)
-  pub resides : (k : ℕ) → T (has set k) → T (has (getD (t .tasks .residence) k 0) p)
-
--- and all that a fair placement has there are among them
+-- open tasks that may reside on p, and all that a fair placement has there are among them
 pub record Choice (t : Table) (s : State) (B : (ℕ → Bool) → Type 0) (p set : ℕ) : Type 0 where
   pub eligible : Eligible t s p set
   pub complete : (q : List ℕ) → Fair t s B q → (k : ℕ) → T (has (s .left) k) → T (placed q k p) → T (has set k)

@@ -1,3 +1,4 @@
 pub mod Weighted
 pub mod OpenTasks
 pub mod Tightening
+pub mod Bounding

@@ -3,7 +3,7 @@ use mathlib.Core.Path.{_≡_, sym, subst}
 use mathlib.Core.Logic.{_⊎_, ⊎-elim}
 use mathlib.Core.Bool.{Bool, true, false}
 use mathlib.Core.List.{List}
-use Prim.Native.Nat.{ℕ, zero, suc, _≤_, _<_}
+use Prim.Native.Nat.{ℕ, _≤_, _<_}
 use native.Mathlib.Decide.{ℕ-discrete}
 use native.Mathlib.Omega.{arith}
 use borrow.Author.Tests.{ltb-true}
@@ -20,7 +20,6 @@ use Rattle.schedule.specs.Arrays.{tasksOf}
 use Rattle.rules.specs.Sets.{standing}
 use Rattle.timing.specs.Timing.{tasksIn}
 use Rattle.rows.specs.Rows.{loadsOf, exclusionsOf, memoryRow, loadRow, exclusionRow, weightsIn}
-use Rattle.rows.proofs.Laws.{loads-bound}
 use Rattle.nogoods.specs.declared.Mode.{Mode}
 use Rattle.nogoods.specs.Nogoods.{Nogoods, Extended, Bad}
 use Rattle.nogoods.proofs.Growth.{extended-refl, extended-trans, extended-map}
@@ -31,7 +30,8 @@ use Rattle.partial.specs.Partial.{Lent, Fits}
 use Rattle.region.specs.Region.{Within, Met}
 use Rattle.region.specs.Lends.{Lends}
 use Rattle.region.proofs.Lending.{lent-tasks}
-use Rattle.candidates.specs.Candidates.{Fair, Eligible}
+use Rattle.region.specs.Begins.{Eligible}
+use Rattle.candidates.specs.Candidates.{Fair}
 use Rattle.candidates.proofs.Meeting.{met-among}
 use Rattle.candidates.proofs.Choosing.{choice-map, eligible-below}
 use Rattle.candidates.proofs.Fairness.{refuted-fair}
@@ -40,8 +40,9 @@ use Rattle.knapsack.specs.declared.Packed.{Packed}
 use Rattle.knapsack.specs.Knapsack.{weightOf, Takes, PackedAs}
 use Rattle.knapsack.proofs.Taking.{takes-map}
 use Rattle.bound_cache.specs.BoundCache.{Capped}
+use Rattle.capacity_bound.specs.declared.Tightened.{Tightened}
 use Rattle.capacity_bound.specs.Bound.{BoundedAs}
-use Rattle.capacity_bound.specs.CapacityBound.{Light, heaviest, TopAs, Covers, Joins, Bounds, Tops, Weighable, Topped, TightAs}
+use Rattle.capacity_bound.specs.CapacityBound.{heaviest, packingFuel, Weights, TopAs, Covers, Joins, Bounds, Tops, Weighable, Topped, TightAs}
 use Rattle.capacity_bound.proofs.OpenTasks.{openOn, fair-joins, open-sum}
 
 -- fewer kinds of sets
@@ -61,13 +62,13 @@ joins-cover : {t : Table} {s : State} {B : (ℕ → Bool) → Type 0} {sets : Li
 joins-cover c j = record { inside = λ k u. rw (← c .same-set) (j .inside k u); takes = takes-more (c .same-on) (c .memory) (c .load) (j .takes) }
 
 -- the first bounds
-pub tops-start : {t : Table} {s : State} {B : (ℕ → Bool) → Type 0} {sizes : Sizes} {rows links : List (List ℕ)} {sets tops : List ℕ} {row : ℕ} → Lent t sizes rows links → Fits t s
+pub tops-start : {t : Table} {s : State} {B : (ℕ → Bool) → Type 0} {sizes : Sizes} {rows links : List (List ℕ)} {weights sets tops : List ℕ} {row : ℕ} → Lent t sizes rows links → Weights rows row weights → Fits t s
     → ((p : ℕ) → p < t .processors .count → Eligible t s p (getD sets p 0)) → ((p : ℕ) → getD tops p 0 ≤ heaviest)
-    → ((p : ℕ) → p < sizes .processors → TopAs (weightsIn rows row) (getD sets p 0) row (getD (s .memory) p 0) (getD (s .load) p 0) (getD tops p 0)) → Tops t s B (weightsIn rows row) sets tops
-tops-start {t} l f el small tops = record {
+    → ((p : ℕ) → p < sizes .processors → TopAs weights (getD sets p 0) row (getD (s .memory) p 0) (getD (s .load) p 0) (getD tops p 0)) → Tops t s B weights sets tops
+tops-start {t} l v f el small tops = record {
   small = small;
   bounds = λ p low x j. tops p (omega (arith, l .processors)) .bounds (t .tasks .count) (eligible-below f (el p low)) x (j .inside)
-      (λ e. rw (e, l .same-loads) (j .takes .enough-load)) (λ e. rw (e, l .same-memory) (j .takes .enough-memory));
+      (λ e. rw (v (omega arith), e, l .same-loads) (j .takes .enough-load)) (λ e. rw (v (omega arith), e, l .same-memory) (j .takes .enough-memory));
 }
 
 -- what the packing begins with for p
@@ -82,12 +83,14 @@ packOf s sets tops p reach = record {
   reach = reach;
   stop = getD tops p 0;
   best = 0;
+  «best_set» = getD (s .on) p 0;
+  fuel = packingFuel;
 }
 
 module _ {t : Table} {s : State} {mode : Mode} {weights sets tops list : List ℕ} {count : ℕ} (o : Tops t s (Bad (tasksIn t) (mode .listing) list count) weights sets tops) {p : ℕ} (low : p < t .processors .count) where
   -- the bound of a processor that covers p
-  pub tight-like : {r most : ℕ} → Nogoods (tasksIn t) list count → r < t .processors .count → Covers s sets r p
-      → (most ≤ getD tops p 0) × (most ≤ getD tops r 0) × ((most ≡ getD tops p 0) ⊎ (most ≡ getD tops r 0)) → TightAs t mode s weights sets tops p list count list (record { most = most; count = count })
+  pub tight-like : {r most set calls : ℕ} → Nogoods (tasksIn t) list count → r < t .processors .count → Covers s sets r p
+      → (most ≤ getD tops p 0) × (most ≤ getD tops r 0) × ((most ≡ getD tops p 0) ⊎ (most ≡ getD tops r 0)) → TightAs t mode s weights sets tops p list count list (record { most = most; set = set; count = count; calls = calls })
   tight-like w i c m = record {
     list = extended-refl w;
     no-more = m .0;
@@ -95,9 +98,9 @@ module _ {t : Table} {s : State} {mode : Mode} {weights sets tops list : List �
   }
 
   -- or one that is kept, of late sets
-  pub tight-recalled : {rows : List (List ℕ)} {row top most : ℕ} → mode .listing ≡ false → weights ≡ weightsIn rows row → Nogoods (tasksIn t) list count
+  pub tight-recalled : {rows : List (List ℕ)} {row top most set calls : ℕ} → mode .listing ≡ false → weights ≡ weightsIn rows row → Nogoods (tasksIn t) list count
       → Capped t rows (getD (s .on) p 0) (getD sets p 0) row (getD (s .memory) p 0) (getD (s .load) p 0) top
-      → (most ≤ getD tops p 0) × (most ≤ top) × ((most ≡ getD tops p 0) ⊎ (most ≡ top)) → TightAs t mode s weights sets tops p list count list (record { most = most; count = count })
+      → (most ≤ getD tops p 0) × (most ≤ top) × ((most ≡ getD tops p 0) ⊎ (most ≡ top)) → TightAs t mode s weights sets tops p list count list (record { most = most; set = set; count = count; calls = calls })
   tight-recalled {top = top} e v w c m = record {
     list = extended-refl w;
     no-more = m .0;
@@ -107,9 +110,9 @@ module _ {t : Table} {s : State} {mode : Mode} {weights sets tops list : List �
   }
 
   -- or by packing
-  pub tight-packed : Sound t → Fits t s → Eligible t s p (getD sets p 0) → {reach : ℕ} {new : List ℕ} (r : Packed) {most : ℕ}
+  pub tight-packed : Sound t → Fits t s → Eligible t s p (getD sets p 0) → {reach : ℕ} {new : List ℕ} (r : Packed) {most set calls : ℕ}
       → PackedAs (t .tasks .count) (tasksIn t) mode (t .tasks .memory) (exclusionsOf t) (loadsOf t) weights (packOf s sets tops p reach) list count new r
-      → (most ≤ getD tops p 0) × (most ≤ r .most) × ((most ≡ getD tops p 0) ⊎ (most ≡ r .most)) → TightAs t mode s weights sets tops p list count new (record { most = most; count = r .count })
+      → (most ≤ getD tops p 0) × (most ≤ r .most) × ((most ≡ getD tops p 0) ⊎ (most ≡ r .most)) → TightAs t mode s weights sets tops p list count new (record { most = most; set = set; count = r .count; calls = calls })
   tight-packed h f e r a m = record {
     list = extended-map (λ c g. met-among h f low (has (getD sets p 0)) (e .waits) (e .resides) g) (a .list);
     no-more = m .0;
@@ -119,19 +122,12 @@ module _ {t : Table} {s : State} {mode : Mode} {weights sets tops list : List �
   }
 
 -- a bound that can be kept
-pub tight-capped : {t : Table} {mode : Mode} {s : State} {weights sets tops old new : List ℕ} {rows : List (List ℕ)} {p before row : ℕ} (r : Packed) → mode .listing ≡ false
+pub tight-capped : {t : Table} {mode : Mode} {s : State} {weights sets tops old new : List ℕ} {rows : List (List ℕ)} {p before row : ℕ} (r : Tightened) → mode .listing ≡ false
     → weights ≡ weightsIn rows row → TightAs t mode s weights sets tops p old before new r
     → Capped t rows (getD (s .on) p 0) (getD sets p 0) row (getD (s .memory) p 0) (getD (s .load) p 0) (r .most)
 tight-capped {t} {new = new} r e v a = record {
   bounds = λ x w f. rw (← v) (a .bounds x (record { inside = f; takes = takes-map (λ y bad. subst (λ (b : Bool). Bad (tasksIn t) b new (r .count) y) e bad) w }));
 }
-
--- the rows of weights are light
-pub light-of : {t : Table} {sizes : Sizes} {rows links : List (List ℕ)} → Lent t sizes rows links → (row : ℕ) → row < 3 → Light (weightsIn rows row)
-light-of {t} l zero h k = rw (l .same-loads) (omega (arith, loads-bound t (l .sound) k))
-light-of l (suc zero) h k = rw (l .same-memory) (omega (arith, l .sound .tasks .memory .fits k))
-light-of l (suc (suc zero)) h k = l .light k
-light-of l (suc (suc (suc w))) h k = absurd (omega arith)
 
 -- what the packing leaves, by the table's rows
 pub packed-as : {t : Table} {sizes : Sizes} {timing rows links : List (List ℕ)} → Lends t sizes timing rows links
@@ -156,7 +152,7 @@ module _ {t : Table} {mode : Mode} {s : State} {weights sets old : List ℕ} {be
   pub tightening-topped : Weighable t mode s sets old before → Topped t mode s weights sets tops list listed
   tightening-topped x = record { fits = x .fits; nogoods = w .list .nogoods; eligible = λ p low. x .choices p low .eligible; holds = w .holds }
 
-  pub tightening-next : {p : ℕ} → p < length tops → {new : List ℕ} (r : Packed) → TightAs t mode s weights sets tops p list listed new r
+  pub tightening-next : {p : ℕ} → p < length tops → {new : List ℕ} (r : Tightened) → TightAs t mode s weights sets tops p list listed new r
       → Tightening t mode s weights sets old before (set tops p (r .most)) new (r .count)
   tightening-next {p} low {new} r a = record {
     list = extended-trans (w .list) (a .list);

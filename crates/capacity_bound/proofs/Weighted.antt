@@ -1,5 +1,5 @@
 -- Weights of sets of tasks: how large they are, one by another. Assumes nothing.
-use mathlib.Core.Path.{_≡_}
+use mathlib.Core.Path.{_≡_, sym, _∙_}
 use mathlib.Core.Logic.{_⊎_, inl, inr, ⊎-elim}
 use mathlib.Core.List.{List}
 use Prim.Native.Nat.{ℕ, _+_, _≤_, _<_, min}
@@ -10,10 +10,11 @@ use lib.ListN.{length, getD, set, replicate}
 use lib.Seq.{getD-set-same, getD-set-other}
 use Rattle.finite.proofs.Stored.{zeros, set-all}
 use Rattle.mask.specs.Mask.{below, Subset}
-use Rattle.mask.proofs.Laws.{sum-most, sum-subset}
+use Rattle.mask.proofs.Laws.{sum-subset, sum-wider}
 use Rattle.partial.specs.declared.State.{State}
 use Rattle.knapsack.specs.Knapsack.{weightOf}
-use Rattle.capacity_bound.specs.CapacityBound.{Light, heaviest, TopAs}
+use Rattle.subgradient.specs.Subgradient.{totalOf}
+use Rattle.capacity_bound.specs.CapacityBound.{heaviest, TopAs}
 
 -- the lower of two numbers is one of them
 pub lower-is : (a b : ℕ) {r : ℕ} → r ≡ min a b → (r ≤ a) × (r ≤ b) × ((r ≡ a) ⊎ (r ≡ b))
@@ -23,9 +24,13 @@ lower-is a b {r} e = (omega arith, omega arith, go (decLt a b))
     go (yes l) = inl (omega arith)
     go (no l) = inr (omega arith)
 
--- light weights are so small in all
-pub weight-small : (weights : List ℕ) (x : ℕ) → Light weights → weightOf 24 weights x ≤ heaviest
-weight-small weights x light = sum-most 24 x (λ k. getD weights k 0) 4294967295 (λ k u. omega (arith, light k))
+-- the weight of a set is the same among any n tasks that hold it
+pub weight-among : (weights : List ℕ) {all : ℕ} (set : ℕ) → T (below 24 set) → all ≡ totalOf weights set → (n : ℕ) → T (below n set) → all ≡ weightOf n weights set
+weight-among weights {all} set b e n d = go (decLt n 24)
+  where
+    go : Dec (n < 24) → all ≡ weightOf n weights set
+    go (yes l) = e ∙ sum-wider n 24 set (λ k. getD weights k 0) (omega arith) d
+    go (no l) = e ∙ sym (sum-wider 24 n set (λ k. getD weights k 0) (omega arith) b)
 
 -- ---- a bound on what a processor can take
 

@@ -2,30 +2,39 @@
 use mathlib.Core.Path.{_≡_}
 use mathlib.Core.Bool.{Bool}
 use mathlib.Core.List.{List}
-use Prim.Native.Nat.{ℕ, _*_, _≤_, _<_}
+use Prim.Native.Nat.{ℕ, _-_, _*_, _≤_, _<_}
 use lib.Dec.{T}
 use lib.ListN.{getD}
 use Rattle.mask.specs.Mask.{below, Subset}
 use Rattle.table.specs.declared.Table.{Table}
 use Rattle.rules.specs.Sets.{standing}
 use Rattle.timing.specs.Timing.{tasksIn}
-use Rattle.rows.specs.Rows.{loadsOf, exclusionsOf}
+use Rattle.rows.specs.Rows.{loadsOf, exclusionsOf, weightsIn}
 use Rattle.partial.specs.declared.State.{State}
 use Rattle.partial.specs.Partial.{Fits}
 use Rattle.nogoods.specs.declared.Mode.{Mode}
 use Rattle.nogoods.specs.Nogoods.{Nogoods, Extended, Bad}
 use Rattle.region.specs.Region.{Within, Met}
-use Rattle.candidates.specs.Candidates.{Eligible, Choices}
-use Rattle.knapsack.specs.declared.Packed.{Packed}
+use Rattle.region.specs.Begins.{Eligible}
+use Rattle.candidates.specs.Candidates.{Choices}
 use Rattle.knapsack.specs.Knapsack.{weightOf, Takes}
+use Rattle.capacity_bound.specs.declared.Tightened.{Tightened}
 
--- small numbers, so that sums of them fit
-abbrev pub Light : List ℕ → Type 0
-Light weights = (k : ℕ) → getD weights k 0 < 4294967296
+-- for a row below 3 the weights are those of the row; from 3 on they may be any
+abbrev pub Weights : List (List ℕ) → ℕ → List ℕ → Type 0
+Weights rows row weights = row < 3 → weights ≡ weightsIn rows row
 
 -- no set of tasks weighs more
 abbrev pub heaviest : ℕ
 heaviest = 24 * 4294967295
+
+-- how many calls each packing may use
+abbrev pub packingFuel : ℕ
+packingFuel = 20000
+
+-- how many of them it took where so many are left
+abbrev pub callsOf : ℕ → ℕ
+callsOf left = packingFuel - left
 
 -- r bounds the weight of the sets x of candidates that weigh no more than what is left of the load, where row 0 weighs them, or of the memory, where row 1 does
 pub record TopAs (weights : List ℕ) (set row space spare r : ℕ) : Type 0 where
@@ -67,7 +76,7 @@ pub record Topped (t : Table) (mode : Mode) (s : State) (weights sets tops list 
   pub holds : Tops t s (Bad (tasksIn t) (mode .listing) list count) weights sets tops
 
 -- a bound for p that is no larger than before
-pub record TightAs (t : Table) (mode : Mode) (s : State) (weights sets tops : List ℕ) (p : ℕ) (old : List ℕ) (before : ℕ) (new : List ℕ) (r : Packed) : Type 0 where
+pub record TightAs (t : Table) (mode : Mode) (s : State) (weights sets tops : List ℕ) (p : ℕ) (old : List ℕ) (before : ℕ) (new : List ℕ) (r : Tightened) : Type 0 where
   pub list : Extended (Met t (Within (standing (s .on)))) (tasksIn t) old before new (r .count)
   pub no-more : r .most ≤ getD tops p 0
   pub bounds : Bounds t s (Bad (tasksIn t) (mode .listing) new (r .count)) weights sets p (r .most)

@@ -1,29 +1,25 @@
 // The capacity bound: the open tasks weigh more than all processors together can take.
 ghost use mathlib.Core.Path.{_≡_};
-ghost use Prim.Native.Nat.{ℕ, _≤_, _<_};
+ghost use Prim.Native.Nat.{ℕ, _-_, _*_, _≤_, _<_};
 ghost use lib.Dec.{T};
 ghost use lib.ListN.{length, getD};
 ghost use mathlib.Core.Bool.{false};
 ghost use Rattle.finite.specs.Finite.{sumTo};
 ghost use Rattle.mask.specs.Mask.{below};
 ghost use Rattle.timing.specs.Timing.{tasksIn};
-ghost use Rattle.rows.specs.Rows.{weightsIn};
 ghost use Rattle.late_cache.specs.LateCache.{LateCache};
 ghost use Rattle.region.specs.Given.{Given, Gives};
-ghost use Rattle.knapsack.specs.Knapsack.{weightOf};
 ghost use Rattle.bound_cache.specs.BoundCache.{Learnt};
 ghost use Rattle.capacity_bound.specs.Bound.{BoundedAs};
-ghost use Rattle.capacity_bound.specs.CapacityBound.{Light, heaviest, TopAs, Covers, Weighable, Topped, TightAs};
+ghost use Rattle.capacity_bound.specs.CapacityBound.{heaviest, packingFuel, callsOf, Weights, TopAs, Covers, Weighable, Topped, TightAs};
 use bound_cache::BoundCache;
 use knapsack::Pack;
-use knapsack::Packed;
 use late_cache::LateCache;
 use nogoods::Mode;
 use numbers::lower;
 use numbers::wide;
 use partial::Sizes;
 use partial::State;
-use rows::LOAD;
 use rows::Messages;
 use rows::Rows;
 use schedule::Timing;
@@ -34,27 +30,33 @@ pub struct Bounded {
     pub count: usize,
 }
 
-// The weight of a set of tasks.
-fn weight_of(weights: &[u32; 24], set: u32) -> u64
-    requires { ⌜ T (below 24 set) × Light (now weights) ⌝ }
-    ensures { λ r. ⌜ (r ≤ heaviest) × ((n : ℕ) → T (below n set) → r ≡ weightOf n (now (weights .entry)) set) ⌝ }
-{
-    let mut sum: u64 = 0;
-    let mut rest = set;
-    while rest != 0 {
-        let k = mask::lowest(rest);
-        sum += wide(weights[k]);
-        rest = mask::remove(rest, k);
-    }
-    sum
+// The same, by weights. `gap` is how much more the processors can take, by their bounds, than the open tasks weigh; `sets` has the heaviest set that
+// was found for each processor, with the tasks on it, or none where its bound was not made tighter; `calls` is how many calls the packings took. These
+// only guide the choice of other weights.
+pub struct Weighed {
+    pub bounded: Bounded,
+    pub gap: u64,
+    pub sets: [u32; 8],
+    pub calls: u64,
 }
+
+// A tighter bound for a processor, the heaviest set that was found for it, how many conflicts are listed then, and how many calls its packing took.
+pub struct Tightened {
+    pub most: u64,
+    pub set: u32,
+    pub count: usize,
+    pub calls: u64,
+}
+
+// How many calls of `knapsack::most` each packing may use.
+const FUEL: u32 = 20000;
 
 // A bound on the weight that a processor can take of the candidates: all of them, or by what is left of its load (row 0) or memory (row 1).
 fn top(weights: &[u32; 24], set: u32, row: usize, space: u64, spare: u64) -> u64
-    requires { ⌜ T (below 24 set) × Light (now weights) ⌝ }
+    requires { ⌜ T (below 24 set) ⌝ }
     ensures { λ r. ⌜ TopAs (now (weights .entry)) set row space spare r ⌝ }
 {
-    let all = weight_of(weights, set);
+    let all = subgradient::total(weights, set);
     if row == 0 {
         return lower(all, spare);
     }
@@ -66,7 +68,7 @@ fn top(weights: &[u32; 24], set: u32, row: usize, space: u64, spare: u64) -> u64
 
 // Such a bound for each of the m processors.
 fn tops_of(weights: &[u32; 24], sets: [u32; 8], row: usize, s: State, m: usize) -> [u64; 8]
-    requires { ⌜ (m ≤ 8) × Light (now weights) × ((p : ℕ) → p < m → T (below 24 (getD sets p 0))) ⌝ }
+    requires { ⌜ (m ≤ 8) × ((p : ℕ) → p < m → T (below 24 (getD sets p 0))) ⌝ }
     ensures { λ r. ⌜ (length r ≡ 8) × ((p : ℕ) → getD r p 0 ≤ heaviest)
         × ((p : ℕ) → p < m → TopAs (now (weights .entry)) (getD sets p 0) row (getD (s .memory) p 0) (getD (s .load) p 0) (getD r p 0)) ⌝ }
 {
@@ -80,7 +82,7 @@ fn tops_of(weights: &[u32; 24], sets: [u32; 8], row: usize, s: State, m: usize) 
 }
 
 // The sum of the first m.
-fn total(tops: [u64; 8], m: usize) -> u64
+fn sum_of(tops: [u64; 8], m: usize) -> u64
     requires { ⌜ (m ≤ 8) × ((p : ℕ) → getD tops p 0 ≤ heaviest) ⌝ }
     ensures { λ r. ⌜ r ≡ sumTo m (λ p. getD tops p 0) ⌝ }
 {
@@ -91,6 +93,26 @@ fn total(tops: [u64; 8], m: usize) -> u64
         p += 1;
     }
     sum
+}
+
+// How much the sum is more than the need.
+fn gap_of(sum: u64, need: u64) -> u64
+    ensures { λ r. ⌜ r ≡ sum - need ⌝ }
+{
+    if sum < need {
+        return 0;
+    }
+    sum - need
+}
+
+// How many calls a packing took that has so much fuel left.
+fn calls_of(left: u32) -> u64
+    ensures { λ r. ⌜ r ≡ callsOf left ⌝ }
+{
+    if FUEL < left {
+        return 0;
+    }
+    wide(FUEL - left)
 }
 
 // Whether processor r can take just what p can.
@@ -133,7 +155,8 @@ fn pack<'a>(
     timing: &'a Timing,
     rows: &'a Rows,
     messages: &'a Messages,
-    row: usize,
+    weights: &'a [u32; 24],
+    order: &'a [u32; 24],
     sizes: Sizes,
     s: State,
     sets: [u32; 8],
@@ -143,32 +166,39 @@ fn pack<'a>(
     list: &mut [u8],
     count: usize,
     lateness: &mut LateCache,
-) -> Packed
+) -> Tightened
     requires { ⌜ Given sizes (now timing) (now rows) (now messages)
-        (λ t. Topped t mode s (weightsIn (now rows) row) sets tops (now list) count) (λ t. LateCache (tasksIn t) (now lateness))
-        × (row < 3) × (p < sizes .processors) ⌝ }
+        (λ t. Topped t mode s (now weights) sets tops (now list) count) (λ t. LateCache (tasksIn t) (now lateness))
+        × (p < sizes .processors) ⌝ }
     ensures { λ r. ⌜ Gives sizes (now (timing .entry)) (now (rows .entry)) (now (messages .entry))
-        (λ t. Topped t mode s (weightsIn (now (rows .entry)) row) sets tops (now (list .entry)) count) (λ t. LateCache (tasksIn t) (now (lateness .entry)))
-        (λ t. TightAs t mode s (weightsIn (now (rows .entry)) row) sets tops p (now (list .entry)) count (now (list .exit)) r × LateCache (tasksIn t) (now (lateness .exit))) ⌝ }
+        (λ t. Topped t mode s (now (weights .entry)) sets tops (now (list .entry)) count) (λ t. LateCache (tasksIn t) (now (lateness .entry)))
+        (λ t. TightAs t mode s (now (weights .entry)) sets tops p (now (list .entry)) count (now (list .exit)) r × LateCache (tasksIn t) (now (lateness .exit)))
+        × (r .calls ≤ packingFuel) ⌝ }
 {
     let most = tops[p];
     let set = sets[p];
-    let reach = weight_of(&rows[LOAD + row], set);
+    let reach = subgradient::total(weights, set);
+    let on = s.on[p];
+    let space = s.memory[p];
+    let spare = s.load[p];
     let pack = Pack {
-        on: s.on[p],
+        on,
         candidates: set,
         at: 0,
-        space: s.memory[p],
-        spare: s.load[p],
+        space,
+        spare,
         weight: 0,
         reach,
         stop: most,
         best: 0,
+        best_set: on,
+        fuel: FUEL,
     };
     let packed = knapsack::most(
         timing,
         rows,
-        &rows[LOAD + row],
+        weights,
+        order,
         sizes.tasks,
         pack,
         mode,
@@ -176,9 +206,11 @@ fn pack<'a>(
         count,
         lateness,
     );
-    Packed {
+    Tightened {
         most: lower(most, packed.most),
+        set: packed.set,
         count: packed.count,
+        calls: calls_of(packed.fuel),
     }
 }
 
@@ -187,6 +219,8 @@ fn pack_once<'a>(
     timing: &'a Timing,
     rows: &'a Rows,
     messages: &'a Messages,
+    weights: &'a [u32; 24],
+    order: &'a [u32; 24],
     row: usize,
     sizes: Sizes,
     s: State,
@@ -198,13 +232,14 @@ fn pack_once<'a>(
     count: usize,
     lateness: &mut LateCache,
     bounds: &mut BoundCache,
-) -> Packed
+) -> Tightened
     requires { ⌜ Given sizes (now timing) (now rows) (now messages)
-        (λ t. Topped t mode s (weightsIn (now rows) row) sets tops (now list) count) (λ t. Learnt t (now rows) (now lateness) (now bounds))
-        × (row < 3) × (p < sizes .processors) × (mode .listing ≡ false) ⌝ }
+        (λ t. Topped t mode s (now weights) sets tops (now list) count) (λ t. Learnt t (now rows) (now lateness) (now bounds))
+        × Weights (now rows) row (now weights) × (p < sizes .processors) × (mode .listing ≡ false) × (row < 3) ⌝ }
     ensures { λ r. ⌜ Gives sizes (now (timing .entry)) (now (rows .entry)) (now (messages .entry))
-        (λ t. Topped t mode s (weightsIn (now (rows .entry)) row) sets tops (now (list .entry)) count) (λ t. Learnt t (now (rows .entry)) (now (lateness .entry)) (now (bounds .entry)))
-        (λ t. TightAs t mode s (weightsIn (now (rows .entry)) row) sets tops p (now (list .entry)) count (now (list .exit)) r × Learnt t (now (rows .entry)) (now (lateness .exit)) (now (bounds .exit))) ⌝ }
+        (λ t. Topped t mode s (now (weights .entry)) sets tops (now (list .entry)) count) (λ t. Learnt t (now (rows .entry)) (now (lateness .entry)) (now (bounds .entry)))
+        (λ t. TightAs t mode s (now (weights .entry)) sets tops p (now (list .entry)) count (now (list .exit)) r × Learnt t (now (rows .entry)) (now (lateness .exit)) (now (bounds .exit)))
+        × (r .calls ≤ packingFuel) ⌝ }
 {
     let on = s.on[p];
     let set = sets[p];
@@ -212,16 +247,19 @@ fn pack_once<'a>(
     let spare = s.load[p];
     let kept = bound_cache::recall(on, set, row, space, spare, bounds);
     if kept.hit {
-        return Packed {
+        return Tightened {
             most: lower(tops[p], kept.top),
+            set: on,
             count,
+            calls: 0,
         };
     }
     let packed = pack(
         timing,
         rows,
         messages,
-        row,
+        weights,
+        order,
         sizes,
         s,
         sets,
@@ -236,43 +274,52 @@ fn pack_once<'a>(
     packed
 }
 
-// A tighter bound for processor p: that of an earlier one which can take just what p can, or by packing.
+// A tighter bound for processor p: that of an earlier one which can take just what p can (and what was found for it), or by packing. Bounds are kept
+// only for the weights of a row.
 fn tighten<'a>(
     timing: &'a Timing,
     rows: &'a Rows,
     messages: &'a Messages,
+    weights: &'a [u32; 24],
+    order: &'a [u32; 24],
     row: usize,
     sizes: Sizes,
     s: State,
     sets: [u32; 8],
     tops: [u64; 8],
+    found: [u32; 8],
     p: usize,
     mode: Mode,
     list: &mut [u8],
     count: usize,
     lateness: &mut LateCache,
     bounds: &mut BoundCache,
-) -> Packed
+) -> Tightened
     requires { ⌜ Given sizes (now timing) (now rows) (now messages)
-        (λ t. Topped t mode s (weightsIn (now rows) row) sets tops (now list) count) (λ t. Learnt t (now rows) (now lateness) (now bounds))
-        × (row < 3) × (p < sizes .processors) ⌝ }
+        (λ t. Topped t mode s (now weights) sets tops (now list) count) (λ t. Learnt t (now rows) (now lateness) (now bounds))
+        × Weights (now rows) row (now weights) × (p < sizes .processors) ⌝ }
     ensures { λ r. ⌜ Gives sizes (now (timing .entry)) (now (rows .entry)) (now (messages .entry))
-        (λ t. Topped t mode s (weightsIn (now (rows .entry)) row) sets tops (now (list .entry)) count) (λ t. Learnt t (now (rows .entry)) (now (lateness .entry)) (now (bounds .entry)))
-        (λ t. TightAs t mode s (weightsIn (now (rows .entry)) row) sets tops p (now (list .entry)) count (now (list .exit)) r × Learnt t (now (rows .entry)) (now (lateness .exit)) (now (bounds .exit))) ⌝ }
+        (λ t. Topped t mode s (now (weights .entry)) sets tops (now (list .entry)) count) (λ t. Learnt t (now (rows .entry)) (now (lateness .entry)) (now (bounds .entry)))
+        (λ t. TightAs t mode s (now (weights .entry)) sets tops p (now (list .entry)) count (now (list .exit)) r × Learnt t (now (rows .entry)) (now (lateness .exit)) (now (bounds .exit)))
+        × (r .calls ≤ packingFuel) ⌝ }
 {
     let r = like(s, sets, p);
     if r < p {
-        return Packed {
+        let set = found[r];
+        return Tightened {
             most: lower(tops[p], tops[r]),
+            set,
             count,
+            calls: 0,
         };
     }
-    if mode.listing {
+    if mode.listing || 2 < row {
         return pack(
             timing,
             rows,
             messages,
-            row,
+            weights,
+            order,
             sizes,
             s,
             sets,
@@ -288,6 +335,8 @@ fn tighten<'a>(
         timing,
         rows,
         messages,
+        weights,
+        order,
         row,
         sizes,
         s,
@@ -302,11 +351,14 @@ fn tighten<'a>(
     )
 }
 
-// The bound by the weights of one row: the processors are tightened one after the other, until their sum is below what the open tasks weigh.
+// The bound by weights, those of a row or, where `row` is 3, any others: the processors are tightened one after the other, until their sum is below
+// what the open tasks weigh.
 pub fn weigh<'a>(
     timing: &'a Timing,
     rows: &'a Rows,
     messages: &'a Messages,
+    weights: &'a [u32; 24],
+    order: &'a [u32; 24],
     row: usize,
     sizes: Sizes,
     s: State,
@@ -316,30 +368,36 @@ pub fn weigh<'a>(
     count: usize,
     lateness: &mut LateCache,
     bounds: &mut BoundCache,
-) -> Bounded
+) -> Weighed
     requires { ⌜ Given sizes (now timing) (now rows) (now messages)
         (λ t. Weighable t mode s sets (now list) count) (λ t. Learnt t (now rows) (now lateness) (now bounds))
-        × (row < 3) ⌝ }
+        × Weights (now rows) row (now weights) ⌝ }
     ensures { λ r. ⌜ Gives sizes (now (timing .entry)) (now (rows .entry)) (now (messages .entry))
         (λ t. Weighable t mode s sets (now (list .entry)) count) (λ t. Learnt t (now (rows .entry)) (now (lateness .entry)) (now (bounds .entry)))
-        (λ t. BoundedAs t mode s (now (list .entry)) count (now (list .exit)) r × Learnt t (now (rows .entry)) (now (lateness .exit)) (now (bounds .exit))) ⌝ }
+        (λ t. BoundedAs t mode s (now (list .entry)) count (now (list .exit)) (r .bounded) × Learnt t (now (rows .entry)) (now (lateness .exit)) (now (bounds .exit)))
+        × (r .gap ≤ 8 * heaviest) × (r .calls ≤ 8 * packingFuel) ⌝ }
 {
     let m = sizes.processors;
-    let need = weight_of(&rows[LOAD + row], s.left);
-    let mut tops = tops_of(&rows[LOAD + row], sets, row, s, m);
-    let mut sum = total(tops, m);
+    let need = subgradient::total(weights, s.left);
+    let mut tops = tops_of(weights, sets, row, s, m);
+    let mut found = [0u32; 8];
+    let mut sum = sum_of(tops, m);
     let mut listed = count;
+    let mut calls: u64 = 0;
     let mut p: usize = 0;
     while p < m && need <= sum {
         let tight = tighten(
             timing,
             rows,
             messages,
+            weights,
+            order,
             row,
             sizes,
             s,
             sets,
             tops,
+            found,
             p,
             mode,
             list,
@@ -348,12 +406,20 @@ pub fn weigh<'a>(
             bounds,
         );
         tops[p] = tight.most;
+        found[p] = tight.set;
         listed = tight.count;
-        sum = total(tops, m);
+        calls += tight.calls;
+        sum = sum_of(tops, m);
         p += 1;
     }
-    Bounded {
+    let bounded = Bounded {
         hopeless: sum < need,
         count: listed,
+    };
+    Weighed {
+        bounded,
+        gap: gap_of(sum, need),
+        sets: found,
+        calls,
     }
 }

@@ -4,9 +4,9 @@ ghost use lib.Dec.{T};
 ghost use Rattle.mask.specs.Mask.{has};
 ghost use Rattle.timing.specs.Timing.{tasksIn};
 ghost use Rattle.late_cache.specs.LateCache.{LateCache};
-ghost use Rattle.region.specs.Begins.{Begins};
+ghost use Rattle.region.specs.Begins.{Stands, Begins};
 ghost use Rattle.region.specs.Given.{Given, Gives};
-ghost use Rattle.entering.specs.Entering.{EnteredAs};
+ghost use Rattle.entering.specs.Entering.{AdmittedAs, EnteredAs};
 use late_cache::LateCache;
 use nogoods::Mode;
 use partial::Sizes;
@@ -23,6 +23,43 @@ pub struct Entered {
 }
 
 // The open task k on processor p: tested by the rules, then for lateness.
+pub fn admit<'a>(
+    timing: &'a Timing,
+    rows: &'a Rows,
+    messages: &'a Messages,
+    sizes: Sizes,
+    s: State,
+    k: usize,
+    p: usize,
+    mode: Mode,
+    list: &mut [u8],
+    count: usize,
+    lateness: &mut LateCache,
+) -> Entered
+    requires { ⌜ Given sizes (now timing) (now rows) (now messages) (λ t. Stands t mode s (now list) count) (λ t. LateCache (tasksIn t) (now lateness))
+        × T (has (s .left) k) × (p < sizes .processors) ⌝ }
+    ensures { λ r. ⌜ Gives sizes (now (timing .entry)) (now (rows .entry)) (now (messages .entry))
+        (λ t. Stands t mode s (now (list .entry)) count) (λ t. LateCache (tasksIn t) (now (lateness .entry)))
+        (λ t. AdmittedAs t mode s k p (now (list .entry)) count (now (list .exit)) r × LateCache (tasksIn t) (now (lateness .exit))) ⌝ }
+{
+    let step = partial::step(rows, messages, sizes, s, k, p);
+    let next = step.next;
+    if !step.allowed {
+        return Entered {
+            passes: false,
+            next,
+            count,
+        };
+    }
+    let tested = nogoods::test(timing, sizes.tasks, next.on[p], mode, list, count, lateness);
+    Entered {
+        passes: !tested.bad,
+        next,
+        count: tested.count,
+    }
+}
+
+// The same, with the tasks that may then still stand on each processor.
 pub fn enter<'a>(
     timing: &'a Timing,
     rows: &'a Rows,
@@ -42,19 +79,40 @@ pub fn enter<'a>(
         (λ t. Begins t mode s (now (list .entry)) count) (λ t. LateCache (tasksIn t) (now (lateness .entry)))
         (λ t. EnteredAs t mode s k p (now (list .entry)) count (now (list .exit)) r × LateCache (tasksIn t) (now (lateness .exit))) ⌝ }
 {
-    let step = partial::step(rows, messages, sizes, s, k, p);
-    let next = step.next;
-    if !step.allowed {
-        return Entered {
-            passes: false,
-            next,
-            count,
-        };
+    let admitted = admit(
+        timing,
+        rows,
+        messages,
+        sizes,
+        s,
+        k,
+        p,
+        mode,
+        list,
+        count,
+        lateness,
+    );
+    if !admitted.passes {
+        return admitted;
     }
-    let tested = nogoods::test(timing, sizes.tasks, next.on[p], mode, list, count, lateness);
-    Entered {
-        passes: !tested.bad,
+    let mut next = admitted.next;
+    let may = candidates::refresh(
+        timing,
+        rows,
+        messages,
+        sizes,
         next,
-        count: tested.count,
+        k,
+        p,
+        mode,
+        list,
+        admitted.count,
+        lateness,
+    );
+    next.may = may;
+    Entered {
+        passes: true,
+        next,
+        count: admitted.count,
     }
 }

@@ -27,7 +27,7 @@ use Rattle.partial.specs.declared.State.{State}
 use Rattle.partial.specs.Partial.{Stepped, StepOf}
 use Rattle.goal.specs.Order.{EarlierThan}
 use Rattle.region.specs.Region.{Within, Refuted, Witness, Marked, Settled}
-use Rattle.region.specs.Begins.{Begins, Ready}
+use Rattle.region.specs.Begins.{Stands, Ready}
 use Rattle.rules.proofs.Placed.{placed-is}
 use Rattle.region.proofs.Refuting.{and-there, and-part, and-within}
 use Rattle.region.proofs.Settling.{settled-nothing, settled-covered, settled-cut, settled-passed, first-start, first-pass, first-step, first-end}
@@ -55,7 +55,7 @@ module _ {t : Table} (h : Sound t) {s : State} {k : ℕ} {witness list : List �
   pub deciding : Ready t s
   deciding = record { fits = w .fits; in-time = in-time }
 
-  pub listing : Begins t lists s list count
+  pub listing : Stands t lists s list count
   listing = record { fits = w .fits; nogoods = w .nogoods; clear = λ p. inl (in-time p) }
 
   -- the rules allow a task where a good placement has it

@@ -5,9 +5,9 @@ ghost use Rattle.mask.specs.Mask.{has};
 ghost use Rattle.rules.specs.Placement.{andTask};
 ghost use Rattle.rules.specs.Sets.{standing};
 ghost use Rattle.nogoods.specs.Nogoods.{lists};
-ghost use Rattle.region.specs.Begins.{Begins, Ready};
+ghost use Rattle.region.specs.Begins.{Stands, Ready};
 ghost use Rattle.region.specs.Given.{Given, Gives};
-ghost use Rattle.restarts.specs.Restarts.{DecidedAs, CoveringAs};
+ghost use Rattle.restarts.specs.Restarts.{NoneGood, DecidedAs, CoveringAs};
 ghost use Rattle.bound_cache.specs.BoundCache.{Learnt};
 ghost use Rattle.first.specs.First.{Placing, Trying, TriedAs, FirstOf};
 use bound_cache::BoundCache;
@@ -60,7 +60,7 @@ fn decide_on<'a>(
         listing: false,
         limited: true,
     };
-    let entered = entering::enter(
+    let entered = entering::admit(
         timing,
         rows,
         messages,
@@ -105,17 +105,19 @@ fn pass_over<'a>(
     lateness: &mut LateCache,
     bounds: &mut BoundCache,
 ) -> Listed
-    requires { ⌜ Given sizes (now timing) (now rows) (now messages) (λ t. Begins t lists s (now list) count) (λ t. Learnt t (now rows) (now lateness) (now bounds))
+    requires { ⌜ Given sizes (now timing) (now rows) (now messages)
+        (λ t. Stands t lists s (now list) count × NoneGood t (andTask (standing (s .on)) k p)) (λ t. Learnt t (now rows) (now lateness) (now bounds))
         × T (has (s .left) k) × (p < sizes .processors) ⌝ }
     ensures { λ r. ⌜ Gives sizes (now (timing .entry)) (now (rows .entry)) (now (messages .entry))
-        (λ t. Begins t lists s (now (list .entry)) count) (λ t. Learnt t (now (rows .entry)) (now (lateness .entry)) (now (bounds .entry)))
+        (λ t. Stands t lists s (now (list .entry)) count × NoneGood t (andTask (standing (s .on)) k p))
+        (λ t. Learnt t (now (rows .entry)) (now (lateness .entry)) (now (bounds .entry)))
         (λ t. CoveringAs t (andTask (standing (s .on)) k p) (now (list .entry)) count (now (list .exit)) r × Learnt t (now (rows .entry)) (now (lateness .exit)) (now (bounds .exit))) ⌝ }
 {
     let mode = Mode {
         listing: true,
         limited: false,
     };
-    let entered = entering::enter(
+    let entered = entering::admit(
         timing,
         rows,
         messages,

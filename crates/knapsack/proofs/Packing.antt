@@ -22,7 +22,7 @@ use Rattle.nogoods.proofs.Growth.{extended-refl, extended-trans, extended-map}
 use Rattle.nogoods.proofs.Verdicts.{bad-grows, bad-more}
 use Rattle.knapsack.specs.declared.Pack.{Pack}
 use Rattle.knapsack.specs.declared.Packed.{Packed}
-use Rattle.knapsack.specs.Knapsack.{weightOf, hasRoom, joined, Among, Takes, Packs, PackedAs, TakenAs}
+use Rattle.knapsack.specs.Knapsack.{weightOf, hasRoom, joined, Among, Takes, Packs, Begun, PackedAs, TakenAs}
 use Rattle.knapsack.proofs.Taking.{takes-map, takes-room, takes-next, with-inside}
 
 -- ---- the candidate k
@@ -39,12 +39,14 @@ withTask memory loads weights pack k = record {
   reach = pack .reach;
   stop = pack .stop;
   best = pack .best;
+  «best_set» = pack .«best_set»;
+  fuel = pack .fuel;
 }
 
 module _ {n : ℕ} {timing : List (List ℕ)} {k : ℕ} {pack : Pack} {old : List ℕ} {before : ℕ} (p : Packs n timing pack old before) (l : k < n) where
   -- there is no room for it
-  pub taken-refused : {mode : Mode} {memory exclusions loads weights : List ℕ} → hasRoom memory exclusions loads (pack .on) (pack .space) (pack .spare) k ≡ false
-      → TakenAs n (tasksOf n timing) mode memory exclusions loads weights pack k old before old (record { most = pack .best; count = before })
+  pub taken-refused : {mode : Mode} {set fuel : ℕ} {memory exclusions loads weights : List ℕ} → hasRoom memory exclusions loads (pack .on) (pack .space) (pack .spare) k ≡ false
+      → TakenAs n (tasksOf n timing) mode memory exclusions loads weights pack k old before old (record { most = pack .best; set = set; count = before; fuel = fuel })
   taken-refused e = record {
     list = extended-refl (p .nogoods);
     no-less = omega arith;
@@ -61,8 +63,8 @@ module _ {n : ℕ} {timing : List (List ℕ)} {k : ℕ} {pack : Pack} {old : Lis
 
     module _ (memory exclusions loads weights : List ℕ) where
       -- it may not stand there
-      pub taken-bad : r .bad ≡ true
-          → TakenAs n (tasksOf n timing) mode memory exclusions loads weights pack k old before new (record { most = pack .best; count = r .count })
+      pub taken-bad : {set fuel : ℕ} → r .bad ≡ true
+          → TakenAs n (tasksOf n timing) mode memory exclusions loads weights pack k old before new (record { most = pack .best; set = set; count = r .count; fuel = fuel })
       taken-bad e = record {
         list = grown;
         no-less = omega arith;
@@ -98,33 +100,18 @@ module _ {n : ℕ} {timing : List (List ℕ)} {k : ℕ} {pack : Pack} {old : Lis
 abbrev pub Same : Pack → Pack → Type 0
 Same pack left = (left .on ≡ pack .on) × (left .space ≡ pack .space) × (left .spare ≡ pack .spare) × (left .weight ≡ pack .weight) × (left .stop ≡ pack .stop)
 
--- and it begins with the weight itself as the best, where that is more
-abbrev pub raised : Pack → ℕ → Pack
-raised pack best = record {
-  on = pack .on;
-  candidates = pack .candidates;
-  at = pack .at;
-  space = pack .space;
-  spare = pack .spare;
-  weight = pack .weight;
-  reach = pack .reach;
-  stop = pack .stop;
-  best = best;
-}
+-- what a call begins with
+module _ {pack left : Pack} (b : Begun pack left) where
+  pub begun-packs : {n : ℕ} {timing : List (List ℕ)} {list : List ℕ} {count : ℕ} → Packs n timing pack list count → Packs n timing left list count
+  begun-packs p = record { limits = rw (b .on) (p .limits); tasks = rw (b .candidates) (p .tasks); nogoods = p .nogoods }
 
-abbrev pub Raised : Pack → Pack → Type 0
-Raised pack left = (best : ℕ) × (pack .best ≤ best) × (left ≡ raised pack best)
-
-module _ {pack left : Pack} (raise : Raised pack left) where
-  pub raised-packs : {n : ℕ} {timing : List (List ℕ)} {list : List ℕ} {count : ℕ} → Packs n timing pack list count → Packs n timing left list count
-  raised-packs p = rw (raise .2) (record { limits = p .limits; tasks = p .tasks; nogoods = p .nogoods })
-
-  pub raised-at : left .at ≡ pack .at
-  raised-at = rw (raise .2) refl
-
-  pub raised-packed : {n : ℕ} {s : Tasks} {mode : Mode} {memory exclusions loads weights old : List ℕ} {before : ℕ} {new : List ℕ} (r : Packed)
+  pub begun-packed : {n : ℕ} {s : Tasks} {mode : Mode} {memory exclusions loads weights old : List ℕ} {before : ℕ} {new : List ℕ} (r : Packed)
       → PackedAs n s mode memory exclusions loads weights left old before new r → PackedAs n s mode memory exclusions loads weights pack old before new r
-  raised-packed r a = let b = rw (raise .2) at a in record { list = b .list; no-less = omega (arith, raise .1, b .no-less); bounds = b .bounds }
+  begun-packed r a = record {
+    list = extended-map (λ c f k u. rw (b .on, b .candidates) at (f k u)) (a .list);
+    no-less = omega (arith, b .no-less, a .no-less);
+    bounds = rw (b .on, b .candidates, b .space, b .spare, b .weight, b .stop) at (a .bounds);
+  }
 
 -- what can be taken is all still left, or it is within the best so far
 pub record Packing (n : ℕ) (s : Tasks) (mode : Mode) (memory exclusions loads weights : List ℕ) (pack : Pack) (old : List ℕ) (before left all top : ℕ) (new : List ℕ) (listed : ℕ)
@@ -137,15 +124,15 @@ pub record Packing (n : ℕ) (s : Tasks) (mode : Mode) (memory exclusions loads 
       → pack .weight + weightOf n weights x ≤ pack .stop → Subset x left ⊎ (pack .weight + weightOf n weights x ≤ top)
 
 pub packing-start : {n : ℕ} {timing : List (List ℕ)} {mode : Mode} {memory exclusions loads weights : List ℕ} {pack left : Pack} {old : List ℕ} {before : ℕ}
-    → Raised pack left → Packs n timing pack old before → pack .reach ≡ pack .weight + weightOf n weights (pack .candidates)
+    → Begun pack left → Packs n timing pack old before → pack .reach ≡ pack .weight + weightOf n weights (pack .candidates)
     → Packing n (tasksOf n timing) mode memory exclusions loads weights left old before (left .candidates) (left .reach) (left .best) old before
-packing-start raise p e = rw (raise .2) (record {
+packing-start b p e = record {
   list = extended-refl (p .nogoods);
   no-less = omega arith;
-  reaches = e;
+  reaches = rw (b .reach, b .weight, b .candidates) e;
   inside = λ k u. u;
   bounds = λ x w f h. inl f;
-})
+}
 
 module _ {n : ℕ} {timing : List (List ℕ)} {mode : Mode} {memory exclusions loads weights : List ℕ} {pack : Pack} {old : List ℕ} {before : ℕ}
     (p : Packs n timing pack old before) where
@@ -197,8 +184,8 @@ module _ {n : ℕ} {timing : List (List ℕ)} {mode : Mode} {memory exclusions l
                     other j v (no i) = rw (has-remove left k j, ne-eqb j k i) (f j v)
 
     -- the end: what is still left counts in full, unless the best is no less anyway
-    pub packing-end : (most : ℕ) → top ≤ most → pack .stop ≤ most ⊎ all ≤ most
-        → PackedAs n (tasksOf n timing) mode memory exclusions loads weights pack old before list (record { most = most; count = listed })
+    pub packing-end : (most : ℕ) {set fuel : ℕ} → top ≤ most → pack .stop ≤ most ⊎ all ≤ most
+        → PackedAs n (tasksOf n timing) mode memory exclusions loads weights pack old before list (record { most = most; set = set; count = listed; fuel = fuel })
     packing-end most a b = record {
       list = w .list;
       no-less = omega (arith, w .no-less);

@@ -1,7 +1,8 @@
 -- What a processor can take of the open tasks, beside those that it has; and a bound on their weight.
+use mathlib.Core.Path.{_≡_}
 use mathlib.Core.Bool.{Bool, _&&_, _||_}
 use mathlib.Core.List.{List}
-use Prim.Native.Nat.{ℕ, _+_, _≤_}
+use Prim.Native.Nat.{ℕ, _+_, _-_, _≤_}
 use lib.Bits.{bitAnd}
 use lib.Dec.{T, eqb, leb}
 use lib.ListN.{getD}
@@ -38,6 +39,18 @@ pub record Packs (n : ℕ) (timing : List (List ℕ)) (pack : Pack) (list : List
   pub limits : InLimits n timing (pack .on)
   pub tasks : T (below n (pack .candidates))
   pub nogoods : Nogoods (tasksOf n timing) list count
+
+-- what a call begins with: the same processor and candidates, of which no more are tried, and a best that is no less
+pub record Begun (pack left : Pack) : Type 0 where
+  pub on : left .on ≡ pack .on
+  pub candidates : left .candidates ≡ pack .candidates
+  pub space : left .space ≡ pack .space
+  pub spare : left .spare ≡ pack .spare
+  pub weight : left .weight ≡ pack .weight
+  pub reach : left .reach ≡ pack .reach
+  pub stop : left .stop ≡ pack .stop
+  pub no-more : 24 - left .at ≤ 24 - pack .at
+  pub no-less : pack .best ≤ left .best
 
 -- c holds only tasks that stand on the processor or are candidates for it
 abbrev pub Among : Pack → ℕ → Type 0

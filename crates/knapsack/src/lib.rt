@@ -5,20 +5,19 @@ ghost use lib.ListN.{getD};
 ghost use Rattle.schedule.specs.Arrays.{tasksOf};
 ghost use Rattle.rows.specs.Rows.{memoryRow, loadRow, exclusionRow};
 ghost use Rattle.late_cache.specs.LateCache.{LateCache};
-ghost use Rattle.knapsack.specs.Knapsack.{weightOf, hasRoom, Packs, PackedAs, TakenAs};
+ghost use Rattle.knapsack.specs.Knapsack.{weightOf, hasRoom, Packs, Begun, PackedAs, TakenAs};
 use late_cache::LateCache;
 use nogoods::Mode;
 use numbers::wide;
 use rows::EXCLUSIONS;
 use rows::LOAD;
 use rows::MEMORY;
-use rows::ORDER;
 use rows::Rows;
 use schedule::Timing;
 
-// A processor and what it may still be given: the tasks on it, and the candidates, which are tried in the static order from `at` on; what is left of
+// A processor and what it may still be given: the tasks on it, and the candidates, which are tried in a given order from `at` on; what is left of
 // its memory (space) and load (spare); the weight taken so far, and what that comes to with all candidates (reach). Only what is below `stop` counts;
-// `best` is reached by other candidates.
+// `best` is reached by other candidates, and `best_set` is the heaviest set so far. `fuel` is how many calls of `most` may still try candidates.
 pub struct Pack {
     pub on: u32,
     pub candidates: u32,
@@ -29,12 +28,17 @@ pub struct Pack {
     pub reach: u64,
     pub stop: u64,
     pub best: u64,
+    pub best_set: u32,
+    pub fuel: u32,
 }
 
-// No less than the most weight that a processor can take, and how many conflicts are listed then.
+// No less than the most weight that a processor can take; the tasks on it and those taken in the heaviest set that was found, of which nothing is
+// claimed, as it only guides the search; how many conflicts are listed then, and the fuel that is left.
 pub struct Packed {
     pub most: u64,
+    pub set: u32,
     pub count: usize,
+    pub fuel: u32,
 }
 
 // Whether task k fits what is left of memory (space) and load (spare), and none of the tasks there is excluded from it.
@@ -56,6 +60,7 @@ fn take<'a>(
     timing: &'a Timing,
     rows: &'a Rows,
     weights: &'a [u32; 24],
+    order: &'a [u32; 24],
     n: usize,
     pack: Pack,
     k: usize,
@@ -72,7 +77,9 @@ fn take<'a>(
     if !room(rows, pack.on, pack.space, pack.spare, k) {
         return Packed {
             most: pack.best,
+            set: pack.best_set,
             count,
+            fuel: pack.fuel,
         };
     }
     let set = mask::insert(pack.on, k);
@@ -80,7 +87,9 @@ fn take<'a>(
     if tested.bad {
         return Packed {
             most: pack.best,
+            set: pack.best_set,
             count: tested.count,
+            fuel: pack.fuel,
         };
     }
     let mut with_k = pack;
@@ -92,6 +101,7 @@ fn take<'a>(
         timing,
         rows,
         weights,
+        order,
         n,
         with_k,
         mode,
@@ -101,11 +111,30 @@ fn take<'a>(
     )
 }
 
-// No less than the most weight that the processor can come to, of what is below `stop`. The candidates that the static order leaves out count in full.
+// What a call of `most` begins with: the weight so far is the best where that is more, and a unit of fuel is used. Without fuel no candidate is tried.
+fn begin(pack: Pack) -> Pack
+    ensures { λ r. ⌜ Begun pack r ⌝ }
+{
+    let mut begun = pack;
+    if pack.best < pack.weight {
+        begun.best = pack.weight;
+        begun.best_set = pack.on;
+    }
+    if pack.fuel == 0 {
+        begun.at = 24;
+        return begun;
+    }
+    begun.fuel = pack.fuel - 1;
+    begun
+}
+
+// No less than the most weight that the processor can come to, of what is below `stop`. The candidates that the order leaves out count in full, and
+// so do those that are not tried for want of fuel.
 pub fn most<'a>(
     timing: &'a Timing,
     rows: &'a Rows,
     weights: &'a [u32; 24],
+    order: &'a [u32; 24],
     n: usize,
     pack: Pack,
     mode: Mode,
@@ -118,15 +147,12 @@ pub fn most<'a>(
     ensures { λ r. ⌜ PackedAs n (tasksOf n (now (timing .entry))) mode (memoryRow (now (rows .entry))) (exclusionRow (now (rows .entry)))
         (loadRow (now (rows .entry))) (now (weights .entry)) pack (now (list .entry)) count (now (list .exit)) r × LateCache (tasksOf n (now (timing .entry))) (now (lateness .exit)) ⌝ }
 {
-    let mut left = pack;
+    let mut left = begin(pack);
     let mut listed = count;
-    if left.best < left.weight {
-        left.best = left.weight;
-    }
     while left.at < 24 && left.best < left.stop && left.best < left.reach {
         let at = left.at;
         // The remainder costs nothing, and below 32 is all that `has` asks: a candidate is below n anyway.
-        let k = (rows[ORDER][at] % 32) as usize;
+        let k = (order[at] % 32) as usize;
         left.at = at + 1;
         if mask::has(left.candidates, k) {
             left.candidates = mask::remove(left.candidates, k);
@@ -134,6 +160,7 @@ pub fn most<'a>(
                 timing,
                 rows,
                 weights,
+                order,
                 n,
                 left,
                 k,
@@ -143,6 +170,8 @@ pub fn most<'a>(
                 lateness,
             );
             left.best = taken.most;
+            left.best_set = taken.set;
+            left.fuel = taken.fuel;
             listed = taken.count;
             left.reach -= wide(weights[k]);
         }
@@ -152,6 +181,8 @@ pub fn most<'a>(
     }
     Packed {
         most: left.best,
+        set: left.best_set,
         count: listed,
+        fuel: left.fuel,
     }
 }

@@ -59,7 +59,7 @@ right-word s x false h =
 
 module _ {s : Tasks} {lateness : List ℕ} (k : LateCache s lateness) where
   -- a word whose set is x tells whether x is late
-  pub late-cache-hit : {j x : ℕ} → j < 8192 → getD lateness j 0 / 2 ≡ x → Says (eqb (getD lateness j 0 % 2) 1) (LateSet s (has x))
+  pub late-cache-hit : {j x : ℕ} → j < 65536 → getD lateness j 0 / 2 ≡ x → Says (eqb (getD lateness j 0 % 2) 1) (LateSet s (has x))
   late-cache-hit {j} l e = subst (λ (y : ℕ). Says (eqb (getD lateness j 0 % 2) 1) (LateSet s (has y))) e (k .says j l)
 
   -- the verdict on a set may be written anywhere
@@ -68,13 +68,13 @@ module _ {s : Tasks} {lateness : List ℕ} (k : LateCache s lateness) where
     says = λ i l. go i l (ℕ-discrete i j) (decLt j (length lateness));
   }
     where
-      go : (i : ℕ) → i < 8192 → Dec (i ≡ j) → Dec (j < length lateness) → Right s (getD (set lateness j (2 * x + boolByte late)) i 0)
+      go : (i : ℕ) → i < 65536 → Dec (i ≡ j) → Dec (j < length lateness) → Right s (getD (set lateness j (2 * x + boolByte late)) i 0)
       go i l (yes e) (yes b) = rw (e, getD-set-same lateness j (2 * x + boolByte late) 0 b) (right-word s x late h)
       go i l (no e) b = subst (Right s) (sym (getD-set-other lateness j i (2 * x + boolByte late) 0 e)) (k .says i l)
       go i l (yes e) (no b) = rw (set-out lateness j (2 * x + boolByte late) (omega arith)) (k .says i l)
 
   -- and behind the first 8,192 words anything
-  pub late-cache-hint : {j : ℕ} (v : ℕ) → 8192 ≤ j → LateCache s (set lateness j v)
+  pub late-cache-hint : {j : ℕ} (v : ℕ) → 65536 ≤ j → LateCache s (set lateness j v)
   late-cache-hint {j} v h = record {
     says = λ i l. subst (Right s) (sym (getD-set-other lateness j i v 0 (λ e. omega arith))) (k .says i l);
   }

@@ -6,14 +6,14 @@ ghost use Rattle.schedule.specs.Arrays.{tasksOf, InLimits, Says};
 ghost use Rattle.late_cache.specs.LateCache.{LateCache, placeOf, withVerdict};
 use schedule::Timing;
 
-// 8,192 words for sets, and as many for hints, of which nothing is claimed.
-pub type LateCache = [u32; 16384];
+// 65,536 words for sets, and 8,192 for hints, of which nothing is claimed.
+pub type LateCache = [u32; 73728];
 
-// Where a set stands in a table of 8,192 words. Any place would do: no answer rests on it.
+// Where a set stands in a table of 65,536 words. Any place would do: no answer rests on it.
 pub fn place_of(set: u32) -> usize
     ensures { λ r. ⌜ r ≡ placeOf set ⌝ }
 {
-    (set as u64 * 2654435761 % 4294967296 / 524288) as usize
+    (set as u64 * 2654435761 % 4294967296 / 65536) as usize
 }
 
 // Whether the set has a late job in the tick run: from the table, or worked out and put there.

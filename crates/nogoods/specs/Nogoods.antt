@@ -3,7 +3,7 @@ use mathlib.Core.Path.{_≡_}
 use mathlib.Core.Bool.{Bool, true, false, _&&_, cond}
 use mathlib.Core.Logic.{_⊎_}
 use mathlib.Core.List.{List, [], _∷_, _++_}
-use Prim.Native.Nat.{ℕ, zero, suc, _+_, _*_, _%_, _≤_, _<_}
+use Prim.Native.Nat.{ℕ, zero, suc, _+_, _*_, _/_, _%_, _≤_, _<_}
 use lib.Dec.{T, eqb, ltb}
 use lib.ListN.{length, getD, set, drop}
 use Rattle.finite.specs.Finite.{someBelow, firstBelow}
@@ -82,8 +82,8 @@ coveredBy list count x = someBelow count (λ j. within (maskAt list j) x)
 -- It is as it was where the hint names a conflict within x, else the hint is the number of the first one, and the count where there is none.
 unfoldable pub hinted : List ℕ → List ℕ → ℕ → ℕ → List ℕ
 hinted lateness list count x =
-    let hint = getD lateness (8192 + placeOf x) 0 % 16777216 in
-    cond (ltb hint count && within (maskAt list hint) x) lateness (set lateness (8192 + placeOf x) (firstBelow count (λ j. within (maskAt list j) x) % 16777216))
+    let hint = getD lateness (65536 + placeOf x / 8) 0 % 16777216 in
+    cond (ltb hint count && within (maskAt list hint) x) lateness (set lateness (65536 + placeOf x / 8) (firstBelow count (λ j. within (maskAt list j) x) % 16777216))
 
 -- the answer of the test by what it asks in turn: is the set late, are conflicts listed, does one of them lie within it, is the list full
 abbrev pub testBy : Bool → Bool → Bool → Bool → ℕ → Tested

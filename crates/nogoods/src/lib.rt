@@ -28,7 +28,7 @@ pub fn covered(list: &[u8], count: usize, set: u32, lateness: &mut LateCache) ->
     ensures { λ r. ⌜ (r ≡ coveredBy (now (list .entry)) count set) × ((s : Tasks) → LateCache s (now (lateness .entry)) → LateCache s (now (lateness .exit)))
         × (now (lateness .exit) ≡ hinted (now (lateness .entry)) (now (list .entry)) count set) ⌝ }
 {
-    let at = 8192 + late_cache::place_of(set);
+    let at = 65536 + late_cache::place_of(set) / 8;
     let hint = (lateness[at] % 16777216) as usize;
     if hint < count && answer::holds(list, hint, set) {
         return true;

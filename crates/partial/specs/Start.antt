@@ -10,12 +10,14 @@ use Rattle.rules.specs.Sets.{standing}
 use Rattle.partial.specs.declared.State.{State}
 use Rattle.partial.specs.Partial.{Fits}
 
--- the state that a search begins with: every task is open, and nothing is taken of a processor's memory and load and of the network; zeros beyond the processors.
+-- the state that a search begins with: every task is open and may stand anywhere, and nothing is taken of a processor's memory and load and of the network;
+-- zeros beyond the processors, but for the tasks that may stand there.
 -- 01: the limit is in thousandths of H.
 unfoldable pub startOf : Table → State
 startOf t = record {
   on = replicate 8 0;
   left = maskOf (t .tasks .count) (λ k. true);
+  may = replicate 8 (maskOf (t .tasks .count) (λ k. true));
   memory = column 8 (t .processors .count) (λ p. getD (t .processors .memory) p 0);
   load = column 8 (t .processors .count) (λ p. getD (t .processors .limit) p 0 * t .hyperperiod / 1000);
   traffic = t .capacity * t .hyperperiod;

@@ -63,11 +63,12 @@ abbrev pub TrialOf : Table → State → ℕ → ℕ → Bool → ℕ → Type 0
 TrialOf t s k p false added = Keeps t (andTask (standing (s .on)) k p) → ⊥
 TrialOf t s k p true added = Tried t s k p added
 
--- the state with task k on p, where it takes so much memory and load, and so much of the network
+-- the state with task k on p, where it takes so much memory and load, and so much of the network. What may stand where is as it was.
 abbrev pub withTask : State → ℕ → ℕ → ℕ → ℕ → ℕ → State
 withTask s k p memory load added = record {
   on = set (s .on) p (insertOf (getD (s .on) p 0) k);
   left = removeOf (s .left) k;
+  may = s .may;
   memory = set (s .memory) p (getD (s .memory) p 0 - memory);
   load = set (s .load) p (getD (s .load) p 0 - load);
   traffic = s .traffic - added;

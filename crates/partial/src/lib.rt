@@ -33,10 +33,12 @@ pub struct Sizes {
     pub messages: usize,
 }
 
-// The tasks on each processor, the open tasks, and what is left of each processor's memory and load and of the network.
+// The tasks on each processor, the open tasks, those of them that may still stand on each processor, and what is left of each processor's
+// memory and load and of the network.
 pub struct State {
     pub on: [u32; 8],
     pub left: u32,
+    pub may: [u32; 8],
     pub memory: [u64; 8],
     pub load: [u64; 8],
     pub traffic: u64,
@@ -68,9 +70,11 @@ pub fn start(t: Table) -> State
         load[p] = wide(processors.limit[p]) * h / 1000;
         p += 1;
     }
+    let all = mask::all_below(tasks.count);
     State {
         on: [0; 8],
-        left: mask::all_below(tasks.count),
+        left: all,
+        may: [all; 8],
         memory,
         load,
         traffic: wide(t.capacity) * h,

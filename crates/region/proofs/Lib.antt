@@ -2,3 +2,4 @@ pub mod Filling
 pub mod Refuting
 pub mod Settling
 pub mod Lending
+pub mod Narrowing

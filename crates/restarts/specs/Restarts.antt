@@ -11,10 +11,14 @@ use Rattle.region.specs.Region.{Within, Refuted, Met, Witness}
 use Rattle.backtrack.specs.declared.Backtracked.{Backtracked}
 use Rattle.restarts.specs.declared.Listed.{Listed}
 
+-- each placement of the region of `on` that keeps the rules has a late set on a processor
+abbrev pub NoneGood : Table → (ℕ → ℕ → Bool) → Type 0
+NoneGood t on = Refuted t (LateSet (tasksIn t)) (Within on)
+
 -- the answer on the region of `on`: a placement without a late set, or that there is none
 abbrev pub DecidedAs : Bool → Table → (ℕ → ℕ → Bool) → List ℕ → Type 0
 DecidedAs true t on sets = Witness t (λ x. LateSet (tasksIn t) x → ⊥) on sets
-DecidedAs false t on sets = Refuted t (LateSet (tasksIn t)) (Within on)
+DecidedAs false t on sets = NoneGood t on
 
 -- the same of one run, which gives up only where it is limited
 pub record AttemptedAs (t : Table) (limited : Bool) (on : ℕ → ℕ → Bool) (r : Backtracked) : Type 0 where

@@ -1,16 +1,26 @@
 // The search of a region, in its two ways: whether it has a placement without a late set; and which conflicts rule out all of its placements.
+ghost use mathlib.Core.Path.{_≡_};
+ghost use mathlib.Core.Bool.{true};
 ghost use Prim.Native.Nat.{_≤_};
+ghost use Rattle.schedule.specs.Periodic.{LateSet};
+ghost use Rattle.timing.specs.Timing.{tasksIn};
 ghost use Rattle.rules.specs.Sets.{standing};
 ghost use Rattle.nogoods.specs.Nogoods.{lists};
-ghost use Rattle.region.specs.Begins.{Begins, Ready};
+ghost use Rattle.region.specs.Region.{Within, Refuted};
+ghost use Rattle.region.specs.Begins.{Begins, Ready, Prepared};
 ghost use Rattle.region.specs.Given.{Given, Gives};
 ghost use Rattle.bound_cache.specs.BoundCache.{Learnt};
-ghost use Rattle.restarts.specs.Restarts.{AttemptedAs, DecidedAs, CoveringAs};
+ghost use Rattle.restarts.specs.Runs.{keptOf, broughtBackOf, isWeighted, shareOf, runOf};
+ghost use Rattle.restarts.specs.Restarts.{AttemptedAs, NoneGood, DecidedAs, CoveringAs};
 use backtrack::Backtracked;
 use bound_cache::BoundCache;
+use heuristics::FAILURES;
 use heuristics::FUEL;
 use heuristics::Heuristics;
 use heuristics::KEPT;
+use heuristics::NODES;
+use heuristics::NUMBERS;
+use heuristics::WEIGHTED;
 use late_cache::LateCache;
 use nogoods::Mode;
 use partial::Sizes;
@@ -31,18 +41,93 @@ pub struct Listed {
     pub count: usize,
 }
 
-// Copies 32 numbers from one place to another.
-fn copy_heuristics(heuristics: &mut Heuristics, from: usize, to: usize)
-    requires { ⌜ (from ≤ 32) × (to ≤ 32) ⌝ }
+// The failure weights and the numbers that a run begins with are kept.
+fn keep(heuristics: &mut Heuristics)
+    ensures { λ _. ⌜ now (heuristics .exit) ≡ keptOf (now (heuristics .entry)) ⌝ }
 {
-    let mut j: usize = 0;
-    while j < KEPT {
-        heuristics[to + j] = heuristics[from + j];
-        j += 1;
-    }
+    heuristics[KEPT + FAILURES] = heuristics[FAILURES];
+    heuristics[KEPT + NUMBERS] = heuristics[NUMBERS];
 }
 
-// One run over the region below a state. It lists nothing: it is lent a list without room.
+// They are brought back, so that the run can be replayed. The weights of the bound need not be: the run left those that it began with, and makes the
+// others anew from them.
+fn bring_back(heuristics: &mut Heuristics)
+    ensures { λ _. ⌜ now (heuristics .exit) ≡ broughtBackOf (now (heuristics .entry)) ⌝ }
+{
+    heuristics[FAILURES] = heuristics[KEPT + FAILURES];
+    heuristics[NUMBERS] = heuristics[KEPT + NUMBERS];
+}
+
+// Whether the weights of the bound adapt in a run: not in the first two, then in every second one.
+fn is_weighted(run: u32) -> bool
+    ensures { λ r. ⌜ r ≡ isWeighted run ⌝ }
+{
+    1 < run && run % 2 == 0
+}
+
+// How many steps a run may take: fewer where the weights adapt, as a step takes longer then; the runs between get more.
+fn share(fuel: u32, run: u32) -> u32
+    requires { ⌜ fuel ≤ 1500000 ⌝ }
+    ensures { λ r. ⌜ r ≡ shareOf fuel run ⌝ }
+{
+    if is_weighted(run) {
+        return fuel / 2;
+    }
+    if run < 2 {
+        return fuel;
+    }
+    4 * fuel
+}
+
+// A run is prepared: how many steps it may take, and whether the weights of the bound adapt.
+fn begin_run(heuristics: &mut Heuristics, fuel: u32, run: u32)
+    requires { ⌜ fuel ≤ 1500000 ⌝ }
+    ensures { λ _. ⌜ now (heuristics .exit) ≡ runOf (now (heuristics .entry)) fuel run ⌝ }
+{
+    heuristics[NUMBERS][FUEL] = share(fuel, run);
+    heuristics[NUMBERS][WEIGHTED] = is_weighted(run) as u32;
+}
+
+// Whether weights are found at the root of a decision that refute the whole region.
+fn refuted_at_root<'a>(
+    timing: &'a Timing,
+    rows: &'a Rows,
+    messages: &'a Messages,
+    sizes: Sizes,
+    s: State,
+    heuristics: &mut Heuristics,
+    lateness: &mut LateCache,
+    bounds: &mut BoundCache,
+) -> bool
+    requires { ⌜ Given sizes (now timing) (now rows) (now messages) (λ t. Prepared t s) (λ t. Learnt t (now rows) (now lateness) (now bounds)) ⌝ }
+    ensures { λ r. ⌜ Gives sizes (now (timing .entry)) (now (rows .entry)) (now (messages .entry))
+        (λ t. Prepared t s) (λ t. Learnt t (now (rows .entry)) (now (lateness .entry)) (now (bounds .entry)))
+        (λ t. (r ≡ true → NoneGood t (standing (s .on))) × Learnt t (now (rows .entry)) (now (lateness .exit)) (now (bounds .exit))) ⌝ }
+{
+    let mut no_list = [0u8; 3];
+    let mode = Mode {
+        listing: false,
+        limited: false,
+    };
+    let may = s.may;
+    let bounded = adaptive_bound::refute_all(
+        timing,
+        rows,
+        messages,
+        sizes,
+        s,
+        may,
+        mode,
+        &mut no_list,
+        0,
+        heuristics,
+        lateness,
+        bounds,
+    );
+    bounded.hopeless
+}
+
+// One run over the region below a state with the tasks that may stand on each processor. It lists nothing: it is lent a list without room.
 // The heuristics that it begins with are kept, so that it can be replayed.
 fn attempt<'a>(
     timing: &'a Timing,
@@ -55,12 +140,33 @@ fn attempt<'a>(
     lateness: &mut LateCache,
     bounds: &mut BoundCache,
 ) -> Backtracked
-    requires { ⌜ Given sizes (now timing) (now rows) (now messages) (λ t. Ready t s) (λ t. Learnt t (now rows) (now lateness) (now bounds)) ⌝ }
+    requires { ⌜ Given sizes (now timing) (now rows) (now messages) (λ t. Prepared t s) (λ t. Learnt t (now rows) (now lateness) (now bounds)) ⌝ }
     ensures { λ r. ⌜ Gives sizes (now (timing .entry)) (now (rows .entry)) (now (messages .entry))
-        (λ t. Ready t s) (λ t. Learnt t (now (rows .entry)) (now (lateness .entry)) (now (bounds .entry)))
+        (λ t. Prepared t s) (λ t. Learnt t (now (rows .entry)) (now (lateness .entry)) (now (bounds .entry)))
         (λ t. AttemptedAs t limited (standing (s .on)) r × Learnt t (now (rows .entry)) (now (lateness .exit)) (now (bounds .exit))) ⌝ }
 {
-    copy_heuristics(heuristics, 0, KEPT);
+    keep(heuristics);
+    let on = s.on;
+    if heuristics[NUMBERS][WEIGHTED] != 0 {
+        let refuted = refuted_at_root(
+            timing,
+            rows,
+            messages,
+            sizes,
+            s,
+            heuristics,
+            lateness,
+            bounds,
+        );
+        if refuted {
+            return Backtracked {
+                found: false,
+                none: true,
+                on,
+                count: 0,
+            };
+        }
+    }
     let mut no_list = [0u8; 3];
     let mode = Mode {
         listing: false,
@@ -81,7 +187,7 @@ fn attempt<'a>(
     )
 }
 
-// The region below a state: 14 runs with growing fuel, since a restart chooses anew; then one to its end.
+// The region below a state: 20 runs with growing fuel, since a restart chooses anew; then one to its end.
 pub fn decide<'a>(
     timing: &'a Timing,
     rows: &'a Rows,
@@ -97,15 +203,33 @@ pub fn decide<'a>(
         (λ t. Ready t s) (λ t. Learnt t (now (rows .entry)) (now (lateness .entry)) (now (bounds .entry)))
         (λ t. DecidedAs (r .found) t (standing (s .on)) (r .on) × Learnt t (now (rows .entry)) (now (lateness .exit)) (now (bounds .exit))) ⌝ }
 {
+    let no_list = [0u8; 3];
+    let quiet = Mode {
+        listing: false,
+        limited: true,
+    };
+    let begin = candidates::prepare(
+        timing,
+        rows,
+        messages,
+        sizes,
+        s,
+        quiet,
+        &no_list,
+        0,
+        lateness,
+    );
+    heuristics[NUMBERS][NODES] = 0;
     let mut fuel: u32 = 300;
-    while fuel < 87000 {
-        heuristics[FUEL] = fuel;
+    let mut run: u32 = 0;
+    while fuel < 900000 {
+        begin_run(heuristics, fuel, run);
         let outcome = attempt(
             timing,
             rows,
             messages,
             sizes,
-            s,
+            begin,
             true,
             heuristics,
             lateness,
@@ -119,13 +243,15 @@ pub fn decide<'a>(
             };
         }
         fuel += fuel / 2;
+        run += 1;
     }
+    begin_run(heuristics, fuel, run);
     let last = attempt(
         timing,
         rows,
         messages,
         sizes,
-        s,
+        begin,
         false,
         heuristics,
         lateness,
@@ -138,8 +264,8 @@ pub fn decide<'a>(
     }
 }
 
-// The region below a state without a good placement: its conflicts are listed, by a replay of the run that found none.
-pub fn cover<'a>(
+// The conflicts of the region below a state, by a replay of the run that found no good placement.
+fn replay<'a>(
     timing: &'a Timing,
     rows: &'a Rows,
     messages: &'a Messages,
@@ -156,17 +282,28 @@ pub fn cover<'a>(
         (λ t. Begins t lists s (now (list .entry)) count) (λ t. Learnt t (now (rows .entry)) (now (lateness .entry)) (now (bounds .entry)))
         (λ t. CoveringAs t (standing (s .on)) (now (list .entry)) count (now (list .exit)) r × Learnt t (now (rows .entry)) (now (lateness .exit)) (now (bounds .exit))) ⌝ }
 {
-    copy_heuristics(heuristics, KEPT, 0);
+    bring_back(heuristics);
     let mode = Mode {
         listing: true,
         limited: false,
     };
-    let outcome = backtrack::backtrack(
+    let begin = candidates::prepare(
         timing,
         rows,
         messages,
         sizes,
         s,
+        mode,
+        list,
+        count,
+        lateness,
+    );
+    let outcome = backtrack::backtrack(
+        timing,
+        rows,
+        messages,
+        sizes,
+        begin,
         mode,
         list,
         count,
@@ -178,4 +315,53 @@ pub fn cover<'a>(
         cut: outcome.found,
         count: outcome.count,
     }
+}
+
+// The region below a state without a good placement: its conflicts are listed, by the recursion over the late sets where that pays, else by a replay.
+pub fn cover<'a>(
+    timing: &'a Timing,
+    rows: &'a Rows,
+    messages: &'a Messages,
+    sizes: Sizes,
+    s: State,
+    list: &mut [u8],
+    count: usize,
+    heuristics: &mut Heuristics,
+    lateness: &mut LateCache,
+    bounds: &mut BoundCache,
+) -> Listed
+    requires { ⌜ Given sizes (now timing) (now rows) (now messages)
+        (λ t. Begins t lists s (now list) count × NoneGood t (standing (s .on))) (λ t. Learnt t (now rows) (now lateness) (now bounds)) ⌝ }
+    ensures { λ r. ⌜ Gives sizes (now (timing .entry)) (now (rows .entry)) (now (messages .entry))
+        (λ t. Begins t lists s (now (list .entry)) count × NoneGood t (standing (s .on))) (λ t. Learnt t (now (rows .entry)) (now (lateness .entry)) (now (bounds .entry)))
+        (λ t. CoveringAs t (standing (s .on)) (now (list .entry)) count (now (list .exit)) r × Learnt t (now (rows .entry)) (now (lateness .exit)) (now (bounds .exit))) ⌝ }
+{
+    let covering = late_listing::list_late_sets(
+        timing,
+        rows,
+        sizes,
+        s,
+        list,
+        count,
+        heuristics,
+        lateness,
+    );
+    if covering.complete {
+        return Listed {
+            cut: false,
+            count: covering.count,
+        };
+    }
+    replay(
+        timing,
+        rows,
+        messages,
+        sizes,
+        s,
+        list,
+        covering.count,
+        heuristics,
+        lateness,
+        bounds,
+    )
 }

@@ -25,6 +25,7 @@ use Rattle.region.specs.Region.{Within, Settled}
 use Rattle.region.specs.Lends.{Lends}
 use Rattle.region.proofs.Settling.{settled-region, settled-covered, settled-cut}
 use Rattle.region.specs.Begins.{Begins, Ready}
+use Rattle.region.proofs.Narrowing.{stands-lists}
 use Rattle.restarts.specs.declared.Decided.{Decided}
 use Rattle.restarts.specs.declared.Listed.{Listed}
 use Rattle.restarts.specs.Restarts.{DecidedAs, CutAs, CoveringAs}
@@ -47,7 +48,7 @@ module _ {t : Table} (h : Sound t) {s : State} (w : Started t s) where
 
   module _ (list : List ℕ) (room : 3 ≤ length list) where
     pub start-listing : Begins t lists s list 0
-    start-listing = record { fits = w .fits; nogoods = nogoods-start room; clear = λ p. inl (idle p) }
+    start-listing = stands-lists (record { fits = w .fits; nogoods = nogoods-start room; clear = λ p. inl (idle p) })
 
     module _ (d : Decided) (x : DecidedAs (d .found) t (standing (s .on)) (d .on)) where
       decided : (b : Bool) → d .found ≡ b → DecidedAs b t (standing (s .on)) (d .on)

@@ -9,6 +9,7 @@ ghost use Rattle.solve.specs.Solve.{SizesOf, SolvedAs};
 use bound_cache::BoundCache;
 use heuristics::CREDIT;
 use heuristics::Heuristics;
+use heuristics::NUMBERS;
 use heuristics::RANDOM;
 use late_cache::LateCache;
 use partial::Sizes;
@@ -128,10 +129,10 @@ pub fn solve(table: Table, list: &mut [u8]) -> Solved
     let s = partial::start(table);
     let rows = static_order::ordered(&timing, &unordered, &messages, sizes, s);
     // The search's own numbers: where the random numbers begin, and one try for the bound.
-    let mut heuristics = [0u32; 64];
-    heuristics[RANDOM] = 2463534242;
-    heuristics[CREDIT] = 1;
-    let mut lateness = [0u32; 16384];
+    let mut heuristics = [[0u32; 24]; 30];
+    heuristics[NUMBERS][RANDOM] = 2463534242;
+    heuristics[NUMBERS][CREDIT] = 1;
+    let mut lateness = [0u32; 73728];
     let mut bounds = [0u64; 12288];
     solve_from(
         &timing,

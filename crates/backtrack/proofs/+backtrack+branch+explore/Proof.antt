@@ -2,16 +2,15 @@
 use native.Mathlib.Omega.{arith}
 use borrow.Author.Needs.{needs}
 use borrow.Author.Tests.{not-true, not-false}
-use mathlib.Core.Path.{_≡_, refl, _∙_}
+use mathlib.Core.Path.{_≡_, refl, sym, _∙_}
 use Prim.Native.Nat.{ℕ, _+_, _*_, _-_, _≤_, _<_}
 use lib.ListN.{length}
 use Rattle.region.specs.Begins.{Begins}
 use Rattle.region.specs.Given.{Gives}
 use Rattle.bound_cache.specs.BoundCache.{Learnt}
 use Rattle.symmetry.proofs.Asking.{asks}
-use Rattle.branching.proofs.Open.{open-low}
 use Rattle.backtrack.proofs.Backtracking.{backtracked-neither, backtracked-end, bounded-begins, bounded-hopeless, bounded-then}
-use Rattle.backtrack.proofs.Backtracking.{explored-symmetric, explored-closed, explored-begins, explored-falls, explored-open}
+use Rattle.backtrack.proofs.Backtracking.{open-low, open-below, picked-waits, explored-narrowed, explored-symmetric, explored-closed, explored-begins, explored-falls, explored-open}
 use Rattle.backtrack.proofs.Backtracking.{Backtracking, backtracking-start, backtracking-begins, backtracking-stop, backtracking-next, backtracking-end}
 use borrow.Fn.Kinds.{In}
 use borrow.Fn.PlainCycle.{Measures, is, falls, and}
@@ -28,6 +27,7 @@ use Rattle.heuristics.proofs.blame.Reads as blame-reads
 use Rattle.backtrack.proofs.offset.Reads as offset-reads
 use Rattle.branching.proofs.pick.Reads as pick-reads
 use Rattle.bound.proofs.bound.Reads as bound-reads
+use Rattle.mask.proofs.has.Reads as has-reads
 use Rattle.symmetry.proofs.representative.Reads as representative-reads
 use Rattle.entering.proofs.enter.Reads as enter-reads
 use Rattle.backtrack.proofs.gives_up.Reads as gives-up-reads
@@ -121,34 +121,35 @@ pub +backtrack+branch+explore-spec : {M : Type 1} → statement M
     branch.Post
     branch-Inv-loop
     branch-μ-loop
+    (λ c. search needs)  -- index-1-pick
     (λ c κs.
-    let a = c .before .before .before .before .before .pre .1 in
-    let b = a .0 .2 in
-    ((a .0 .0, a .0 .1, b .fits, a .0 .3 .knows), a .1, omega (arith, b .nogoods .room)))  -- pick-requires
+    let a = c .before .before .before .before .before .before .pre .1 in
+    let l = a .0 .1 .rules in
+    (omega (arith, l .processors, l .sound .processors .most), open-below (l .sound) (a .0 .2 .fits), a .1))  -- pick-requires
     (λ c κs.
-    let l = c .before .before .before .before .before .before .before .pre .1 .0 .1 in
+    let l = c .before .before .before .before .before .before .before .before .pre .1 .0 .1 in
     omega (arith, l .rules .processors, l .rules .sound .processors .some))  -- offset-requires
     (λ c. (omega arith, refl, λ u l b k. (backtracking-start b (c .before .before .pick .result) (c .offset .result) _ (c .offset .ensures), k)))  -- loop-holds
     (λ c κs.
     let o = c .before .before .before in
-    let l = o .before .before .before .before .before .before .before .before .pre .1 .0 .1 in
+    let l = o .before .before .before .before .before .before .before .before .before .pre .1 .0 .1 in
     (o .offset .ensures, c .if1 .taken, omega (arith, l .rules .processors, l .rules .sound .processors .most)))  -- turned-requires
     (λ c κs.
     let i = c .before .before .before .before .before .before .before in
     let n = i .before .before .before in
-    let a = n .before .before .before .before .before .before .pre in
+    let a = n .before .before .before .before .before .before .before .pre in
     let u = a .1 .0 .0 in
     let l = a .1 .0 .1 in
     let b = a .1 .0 .2 in
     let k = a .1 .0 .3 in
-    let v = i .loop .inv .2 u l b (record { knows = n .pick .ensures .1 u l (b .fits) (k .knows); keeps = k .keeps }) in
-    (omega (arith, a .0), ((u, l, backtracking-begins (v .0) b, v .1), n .pick .ensures .0, c .before .before .before .before .turned .ensures .0)))  -- explore-requires
+    let v = i .loop .inv .2 u l b k in
+    (omega (arith, a .0), ((u, l, backtracking-begins (v .0) b, v .1), picked-waits (l .rules .sound) (b .fits) _ _ _ _ (n .pick .ensures .0) (a .1 .1), c .before .before .before .before .turned .ensures .0)))  -- explore-requires
     (λ c. let x = c .before .before .before .before in x .explore .kept .1 .1 .1 .1 .1 .1 .1 .1 .0 ∙ x .before .before .before .before .before .before .before .before .loop .inv .1)  -- same-length
     (λ c u l b k.
     let x = c .before .before .before .before in
     let i = x .before .before .before .before .before .before .before .before in
     let n = i .before .before .before in
-    let v = i .loop .inv .2 u l b (record { knows = n .pick .ensures .1 u l (b .fits) (k .knows); keeps = k .keeps }) in
+    let v = i .loop .inv .2 u l b k in
     let e = x .explore .ensures u l (backtracking-begins (v .0) b) (v .1) in
     (backtracking-stop (v .0) (x .explore .result) (e .0) (not-true (x .explore .result .none) (c .if2 .taken)), e .1))  -- returns
     (λ c. search needs)  -- add-i
@@ -165,15 +166,19 @@ pub +backtrack+branch+explore-spec : {M : Type 1} → statement M
     ))  -- loop-again
     (λ c κs.
     let n = c .before .before .before .before .before .before in
-    let a = n .before .before .before .before .before .before .pre .1 .0 in
-    omega (arith, open-low (a .1) (a .2 .fits) _ (n .pick .ensures .0)))  -- blame-requires
+    let a = n .before .before .before .before .before .before .before .pre .1 in
+    let h = a .0 .1 .rules .sound in
+    open-low h (a .0 .2 .fits) _ (picked-waits h (a .0 .2 .fits) _ _ _ _ (n .pick .ensures .0) (a .1)))  -- blame-requires
     (λ c. c .before .before .before .before .loop .inv .1)  -- same-length-2
     (λ c u l b k.
     let i = c .before .before .before .before in
     let n = i .before .before .before in
-    let v = i .loop .inv .2 u l b (record { knows = n .pick .ensures .1 u l (b .fits) (k .knows); keeps = k .keeps }) in
-    (backtracking-end (v .0) (b .fits) (omega (arith, c .before .before .if1 .left)) (b .fits .open-task (n .pick .result) (n .pick .ensures .0) .0) (l .rules .processors) _, v .1)))  -- returns-2
+    let v = i .loop .inv .2 u l b k in
+    let waits = picked-waits (l .rules .sound) (b .fits) _ _ _ _ (n .pick .ensures .0) (n .before .before .before .before .before .before .before .pre .1 .1) in
+    (backtracking-end (v .0) (b .fits) (omega (arith, c .before .before .if1 .left)) (b .fits .open-task (n .pick .result) waits .0) (l .rules .processors) _, v .1)))  -- returns-2
     λ t. explore-lts.spec (
+      has-reads.Asked,
+      has-reads.Learnt,
       representative-reads.Asked,
       representative-reads.Learnt,
       enter-reads.Asked,
@@ -183,22 +188,33 @@ pub +backtrack+branch+explore-spec : {M : Type 1} → statement M
     )
     (explore-at t)
     explore.Post
-    (λ c κs. let a = c .before .before .pre .1 in (a .0 .0, asks (a .0 .1 .rules) (a .0 .2 .fits) (a .2)))  -- representative-requires
+    (λ c. let a = c .before .before .before .before .pre .1 in let l = a .0 .1 .rules in record { fits = omega (arith, a .2, l .processors, l .sound .processors .most) })  -- mul-has
+    (λ c. let a = c .before .before .before .before .pre .1 in let l = a .0 .1 .rules in omega (arith, a .2, l .processors, l .sound .processors .most))  -- element-copy-out-has
+    (λ c κs. let a = c .before .before .before .before .before .pre .1 in omega (arith, open-low (a .0 .1 .rules .sound) (a .0 .2 .fits) _ (a .1)))  -- has-requires
+    (λ c u l b k.
+    let h = c .before in
+    let q = h .before .before in
+    let z = q .before .before .before .before in (
+      explored-narrowed _ b (not-true (z .args .mode .listing) (q .if1 .taken)) (z .pre .1 .1) (omega (arith, z .pre .1 .2, l .rules .processors))
+          (λ v. absurd (rw (sym (h .has .ensures) ∙ not-true (h .has .result) (c .if2 .taken)) at v)) _,
+      k,
+    ))  -- returns
+    (λ c κs. let a = c .before .before .before .before .pre .1 in (a .0 .0, asks (a .0 .1 .rules) (a .0 .2 .fits) (a .2)))  -- representative-requires
     (λ c u l b k.
     let w = c .before in
-    (explored-symmetric _ b (w .representative .ensures u (asks (l .rules) (b .fits) (w .before .before .before .pre .1 .2))) (c .if1 .taken) _, k))  -- returns
-    (λ c κs. let a = c .before .before .before .before .before .before .pre .1 in ((a .0 .0, a .0 .1, a .0 .2, a .0 .3 .knows), a .1, a .2))  -- enter-requires
+    (explored-symmetric _ b (w .representative .ensures u (asks (l .rules) (b .fits) (w .before .before .before .before .before .pre .1 .2))) (c .if3 .taken) _, k))  -- returns-2
+    (λ c κs. let a = c .before .before .before .before .before .before .before .before .pre .1 in ((a .0 .0, a .0 .1, a .0 .2, a .0 .3 .knows), a .1, a .2))  -- enter-requires
     (λ c. search needs)  -- same-length
     (λ c u l b k.
     let w = c .before .before .before .before in
     let e = w .enter .ensures u l b (k .knows) in
-    (explored-closed (w .enter .result) (e .0) (not-true (w .enter .result .passes) (c .if2 .taken)) _, record { knows = e .1; keeps = k .keeps }))  -- returns-2
+    (explored-closed (w .enter .result) (e .0) (not-true (w .enter .result .passes) (c .if4 .taken)) _, record { knows = e .1; keeps = k .keeps }))  -- returns-3
     (λ c κs.
     let w = c .before .before .before .before .before .before .before .before .before in
-    let a = w .before .before .before .before .before .before .before .pre in
+    let a = w .before .before .before .before .before .before .before .before .before .pre in
     let k = a .1 .0 .3 in
     let e = w .enter .ensures (a .1 .0 .0) (a .1 .0 .1) (a .1 .0 .2) (k .knows) in
-    let f = not-false (w .enter .result .passes) (c .before .before .before .before .before .if2 .left) in (
+    let f = not-false (w .enter .result .passes) (c .before .before .before .before .before .if4 .left) in (
       omega (arith, a .0, explored-falls (w .enter .result) (e .0) f (a .1 .1)),
       (a .1 .0 .0, a .1 .0 .1, explored-begins (w .enter .result) (e .0) f, record { knows = e .1; keeps = k .keeps }),
     ))  -- backtrack-requires
@@ -207,6 +223,6 @@ pub +backtrack+branch+explore-spec : {M : Type 1} → statement M
     let v = c .before .before in
     let w = v .before .before .before .before .before .before .before .before .before .before in
     let e = w .enter .ensures u l b (k .knows) in
-    let f = not-false (w .enter .result .passes) (v .before .before .before .before .before .before .if2 .left) in
+    let f = not-false (w .enter .result .passes) (v .before .before .before .before .before .before .if4 .left) in
     let x = v .backtrack .ensures u l (explored-begins (w .enter .result) (e .0) f) (record { knows = e .1; keeps = k .keeps }) in
-    (explored-open (w .enter .result) (e .0) f (v .backtrack .result) (x .0), x .1))  -- returns-3
+    (explored-open (w .enter .result) (e .0) f (v .backtrack .result) (x .0), x .1))  -- returns-4

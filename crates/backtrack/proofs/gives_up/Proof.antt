@@ -9,9 +9,12 @@ pub gives-up-spec : {M : Type 1} → statement M
 gives-up-spec =
     tie.close
     (tie.spec
+    (λ c κs. search needs)  -- count-node-requires
     (λ c e. absurd (false≢true e))  -- returns
-    (λ c. search needs)  -- element-copy-out-fuel
-    (λ c e. not-false (c .before .before .before .args .limited) (c .before .before .if1 .left))  -- returns-2
+    (λ c. search needs)  -- index-1-fuel
+    (λ c. search needs)  -- index-2-fuel
+    (λ c e. let i = c .before .before in not-false _ (i .if1 .left))  -- returns-2
     (λ c. search needs)  -- sub-heuristics
-    (λ c. search needs)  -- element-write-heuristics
+    (λ c. search needs)  -- index-1-heuristics
+    (λ c. search needs)  -- index-2-heuristics
     (λ c e. absurd (false≢true e)))  -- returns-3

@@ -1,6 +1,7 @@
--- By the number of open tasks, then the credit, then the skips.
+-- By the number of open tasks, then the kind of the run, then the credit, then the skips.
 use mathlib.Core.Path.{_≡_, refl}
 use mathlib.Core.Bool.{true}
+use mathlib.Core.Logic.{⊎-elim}
 use native.Mathlib.Omega.{arith}
 use borrow.Author.Needs.{needs}
 use borrow.Author.Tests.{le-leb, lt-leb, eq-eqb, ne-eqb}
@@ -21,9 +22,19 @@ due-spec =
     tie.close
     (tie.spec
     (λ c. let few = lt-leb 4 (cardinality 32 (c .before .args .left)) (omega (arith, cardinality-ones 32 (c .before .args .left) (search needs))) in rw few (refl, refl))  -- returns
-    (λ c. search needs)  -- element-copy-out-if2
-    (λ c. rw (many (c .before .before), ne-eqb _ _ (c .if2 .taken)) (refl, refl))  -- returns-2
-    (λ c. search needs)  -- element-copy-out-skips
+    (λ c. search needs)  -- index-1-if2
+    (λ c. search needs)  -- index-2-if2
+    (λ c. search needs)  -- index-1-if3
+    (λ c. search needs)  -- index-2-if3
+    (λ c.
+    let four = many (c .before .before) in
+    ⊎-elim (λ w. rw (four, ne-eqb _ _ (w .taken)) (refl, refl)) (λ w. rw (four, eq-eqb _ _ (w .0 .left), w .2 .taken) (refl, refl)) (c .if2 .came))  -- returns-2
+    (λ c. search needs)  -- index-1-skips
+    (λ c. search needs)  -- index-2-skips
     (λ c. search needs)  -- add-skips
-    (λ c. search needs)  -- element-write-heuristics
-    (λ c. rw (many (c .before .before .before), eq-eqb _ _ (c .before .if2 .left)) (refl, refl)))  -- returns-3
+    (λ c. search needs)  -- index-1-heuristics
+    (λ c. search needs)  -- index-2-heuristics
+    (λ c.
+    let e = c .before in
+    let w = e .before .before in
+    rw (many (w .before .before), eq-eqb _ _ (w .if2 .left), e .if3 .left) (refl, refl)))  -- returns-3

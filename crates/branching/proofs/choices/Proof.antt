@@ -1,23 +1,20 @@
--- At most one is counted for each processor passed; the table knows the sets of the tasks throughout.
-use borrow.Author.Needs.{needs}
-use mathlib.Core.Path.{refl}
+-- The processors are asked one by one.
 use mathlib.Core.Logic.{⊎-elim}
-use Prim.Native.Nat.{_-_, _≤_}
+use mathlib.Core.Path.{refl}
+use Prim.Native.Nat.{_-_}
 use native.Mathlib.Omega.{arith}
-use Rattle.schedule.specs.Arrays.{tasksOf}
-use Rattle.late_cache.specs.LateCache.{LateCache}
-use Rattle.region.proofs.Lending.{lent-tasks, limits-with}
-use Rattle.branching.proofs.Open.{open-low}
+use borrow.Author.Needs.{needs}
+use lib.ListN.{getD}
+use Rattle.mask.specs.Mask.{has}
+use Rattle.rules.proofs.SumLoop.{Summing, summing-start, summing-in, summing-out, summing-end}
 use Rattle.branching.proofs.choices.Statement.{statement}
 use Rattle.branching.proofs.choices.Tie as tie
 
 abbrev Inv-loop : tie.InvT-loop
-Inv-loop timing rows messages sizes k full list count lateness₀ s found₀ p₀ lateness found p =
-    (p ≤ sizes .processors) × (found ≤ p) × LateCache (tasksOf (sizes .tasks) timing) lateness
+Inv-loop may processors k found₀ p₀ found p = Summing processors (λ r. has (getD may r 0) k) (λ r. 1) 1 p found
 
 abbrev μ-loop : tie.MeasureT-loop
-μ-loop timing rows messages sizes k full list count lateness₀ s found₀ p₀ lateness found p =
-    sizes .processors - p
+μ-loop may processors k found₀ p₀ found p = processors - p
 
 pub choices-spec : {M : Type 1} → statement M
 choices-spec =
@@ -25,24 +22,18 @@ choices-spec =
     (tie.spec
     Inv-loop
     μ-loop
-    (λ c. let z = c .before .pre in (search needs, search needs, rw (lent-tasks (z .0 .1)) (z .0 .3)))  -- loop-holds
-    (λ c. search needs)  -- mul-t17
-    (λ c. search needs)  -- element-copy-out-t20
-    (λ c. search needs)  -- mul-t22
-    (λ c. search needs)  -- element-copy-out-t25
-    (λ c. search needs)  -- mul-t26
-    (λ c. search needs)  -- element-copy-out-t29
-    (λ c κs. let z = c .before .before .before .before .before .before .before .pre in ((z .0 .0, _, z .0 .1 .rules, z .0 .2, refl), z .1, search needs))  -- allows-requires
-    (λ c κs. let z = c .before .before .before .before .before .before .before .before .before .pre in omega (arith, open-low (z .0 .1) (z .0 .2) _ (z .1)))  -- insert-requires
-    (λ c κs.
-    let i = c .before .before .before .before .before .before .before .before .before in
-    let z = i .before .before .pre in
-    (rw (c .before .insert .ensures) (limits-with (z .0 .1) (z .0 .2) _ (z .1) _), z .2, i .loop .inv .2))  -- passed-over-requires
+    (λ c. summing-start)  -- loop-holds
+    (λ c. search needs)  -- mul-has
+    (λ c. search needs)  -- element-copy-out-has
+    (λ c κs. search needs)  -- has-requires
     (λ c. search needs)  -- add-found
     (λ c. search needs)  -- add-p
     (λ c. search needs)  -- loop-less
-    (λ c. ⊎-elim
-    (λ w. (search needs, search needs, rw (w .5) (w .3 .ensures)))
-    (⊎-elim (λ w. (search needs, search needs, rw (w .5) (w .3 .ensures))) (λ w. (search needs, search needs, rw (w .1) (c .before .before .before .before .before .before .before .loop .inv .2))))
-    (c .if2 .came))  -- loop-again
-    (λ c. (search needs, λ t lent fits knows. rw (← lent-tasks lent) (c .before .before .loop .inv .2))))  -- returns
+    (λ c.
+    let a = c .before in
+    let l = a .before .before in
+    ⊎-elim
+    (λ w. rw (w .1) (summing-in (l .before .loop .inv) (l .loop-test .taken) (rw (a .has .ensures) at (w .0 .taken)) refl (omega arith)))
+    (λ w. rw (w .1) (summing-out (l .before .loop .inv) (l .loop-test .taken) (rw (a .has .ensures) at (w .0 .left))))
+    (c .if1 .came))  -- loop-again
+    (λ c. (summing-end (c .before .loop .inv) (c .loop-test .left), search needs)))  -- returns

@@ -1,4 +1,5 @@
 -- The quotient is at most 64 · 2^26, and the noise less than 128.
+use mathlib.Core.Path.{refl}
 use Prim.Native.Nat.{ℕ, _+_, _*_, _/_, _≤_, _<_}
 use native.Mathlib.Nat.{mul-le-mul, div-le-self}
 use native.Mathlib.Omega.{arith}
@@ -24,7 +25,8 @@ score-spec =
     (tie.spec
     (λ c κs. search needs)  -- wide-requires
     (λ c. search needs)  -- mul-wide
-    (λ c. search needs)  -- element-copy-out-wide
+    (λ c. search needs)  -- index-1-wide
+    (λ c. search needs)  -- index-2-wide
     (λ c κs. search needs)  -- wide-requires-2
     (λ c. search needs)  -- add-weight
     (λ c. search needs)  -- add-weight-2
@@ -39,4 +41,6 @@ score-spec =
     let a = c .before .before .before .before .before in
     let w = c .before .before .before .before .wide .result + c .before .before .wide2 .result + 1 in
     record { fits = omega (arith, quotient (a .args .choices) w (a .pre .0), product (a .args .choices) w (c .noise .result) (a .pre .0) (omega arith)) })  -- add-result
-    (λ c. search needs))  -- returns
+    (λ c.
+    let w = c .before .before .wide2 in
+    (rw (c .before .before .before .before .wide .ensures .0, w .ensures .0, c .noise .ensures .0) refl, c .noise .ensures .1)))  -- returns

@@ -1,5 +1,5 @@
 -- The bound that is kept, or what the packing finds, which is kept then.
-use mathlib.Core.Path.{refl}
+use native.Mathlib.Omega.{arith}
 use borrow.Author.Needs.{needs}
 use Rattle.bound_cache.proofs.Laws.{recalled, bound-cache-keep}
 use Rattle.capacity_bound.proofs.Weighted.{lower-is}
@@ -25,19 +25,23 @@ pack-once-spec =
     (λ c κs. search needs)  -- lower-requires
     (λ c.
     let y = c .before .before in
-    let z = y .before .before .before .before .before .before in
-    λ t l w k. (
-      tight-recalled (w .holds) (rw (← l .rules .processors) (z .pre .2)) (z .pre .3) refl (w .nogoods) (recalled (k .keeps) (y .recall .ensures) (c .before .if1 .taken)) (lower-is _ _ (c .lower .ensures)),
-      k,
+    let z = y .before .before .before .before .before .before in (
+      λ t l w k. (
+        tight-recalled (w .holds) (rw (← l .rules .processors) (z .pre .2)) (z .pre .3) (z .pre .1 (z .pre .4)) (w .nogoods) (recalled (k .keeps) (y .recall .ensures) (c .before .if1 .taken)) (lower-is _ _ (c .lower .ensures)),
+        k,
+      ),
+      omega arith,
     ))  -- returns
     (λ c κs.
     let z = c .before .before .before .before .before .before .before .before .before .pre in
-    ((z .0 .0, z .0 .1, z .0 .2, z .0 .3 .knows), z .1, z .2))  -- pack-requires
+    ((z .0 .0, z .0 .1, z .0 .2, z .0 .3 .knows), z .2))  -- pack-requires
     (λ c κs. search needs)  -- keep-requires
     (λ c. search needs)  -- same-length
     (λ c.
     let x = c .before .before .before .before in
-    let z = x .before .before .before .before .before .before .before .before .before .before in
-    λ t l w k.
-    let a = x .pack .ensures t l w (k .knows) in
-    (a .0, record { knows = a .1; keeps = rw (c .keep .ensures) (bound-cache-keep _ _ _ _ _ _ (k .keeps) (tight-capped (x .pack .result) (z .pre .3) refl (a .0))) })))  -- returns-2
+    let z = x .before .before .before .before .before .before .before .before .before .before in (
+      λ t l w k.
+          let a = x .pack .ensures .0 t l w (k .knows) in
+          (a .0, record { knows = a .1; keeps = rw (c .keep .ensures) (bound-cache-keep _ _ _ _ _ _ (k .keeps) (tight-capped (x .pack .result) (z .pre .3) (z .pre .1 (z .pre .4)) (a .0))) }),
+      x .pack .ensures .1,
+    )))  -- returns-2

@@ -27,7 +27,7 @@ tops-of-spec =
     (λ c. search needs)  -- element-copy-out-top
     (λ c. search needs)  -- mul-top-3
     (λ c. search needs)  -- element-copy-out-top-2
-    (λ c κs. let l = c .before .before in let z = l .before .before .pre in (z .2 _ (l .loop-test .taken), z .1))  -- top-requires
+    (λ c κs. let l = c .before .before in l .before .before .pre .1 _ (l .loop-test .taken))  -- top-requires
     (λ c. search needs)  -- mul-tops
     (λ c. search needs)  -- array-write-tops
     (λ c. search needs)  -- add-p

@@ -1,33 +1,39 @@
--- What the rules refuse is not tested, and nothing is learnt; what the test leaves is said of the tasks of the table.
+-- Where the test lets the task in, what may stand on each processor is narrowed.
+use native.Mathlib.Omega.{arith}
 use borrow.Author.Needs.{needs}
-use Rattle.region.proofs.Lending.{lent-tasks, lent-limits, set-below}
-use Rattle.entering.proofs.Tried.{step-allowed, enter-broken, enter-tested}
+use borrow.Author.Tests.{not-true, not-false}
+use Rattle.region.proofs.Narrowing.{begins-stands}
+use Rattle.entering.proofs.Tried.{entered-closed, entered-stands, entered-open}
 use Rattle.entering.proofs.enter.Statement.{statement}
 use Rattle.entering.proofs.enter.Tie as tie
-
--- what the test leaves
-returns-2 : tie.Need-returns-2
-returns-2 c t l b k =
-    let w = c .before .before .before in
-    let u = w .before .before .before .before .before .before .before in
-    let step = step-allowed (u .step .result .allowed) (u .step .ensures .1 t (l .rules) (b .fits)) (w .before .before .before .before .if1 .left) in
-    let n = rw (lent-tasks l) at (w .test .ensures) in
-    (enter-tested (l .rules .sound) b _ _ step (w .test .result) (n .0), n .1)
 
 pub enter-spec : {M : Type 1} → statement M
 enter-spec =
     tie.close
     (tie.spec
-    (λ c κs. search needs)  -- step-requires
-    (λ c t l b k.
-    let w = c .before .before .before in
-    (enter-broken (l .rules .sound) b (w .before .before .args .k) (w .before .before .args .p) (w .step .result .allowed) (w .step .ensures .1 t (l .rules) (b .fits)) (c .if1 .taken), k))  -- returns
-    (λ c. search needs)  -- mul-test
-    (λ c. search needs)  -- element-copy-out-test
-    (λ c κs.
-    let w = c .before .before .before .before .before .before in
-    let a = w .before .before .pre .0 in
-    let step = step-allowed (w .step .result .allowed) (w .step .ensures .1 (a .0) (a .1 .rules) (a .2 .fits)) (c .before .before .before .if1 .left) in
-    (lent-limits (a .1) (set-below (step .fits .partial) _), rw (lent-tasks (a .1)) (a .2 .nogoods), rw (lent-tasks (a .1)) (a .3)))  -- test-requires
+    (λ c κs. let a = c .before .before .before .pre in ((a .0 .0, a .0 .1, begins-stands (a .0 .2), a .0 .3), a .1, a .2))  -- admit-requires
     (λ c. search needs)  -- same-length
-    returns-2)
+    (λ c t l b k.
+    let x = c .before .before .before .before in
+    let a = x .admit .ensures t l (begins-stands b) k in
+    (entered-closed (x .admit .result) (a .0) (not-true (x .admit .result .passes) (c .if1 .taken)), a .1))  -- returns
+    (λ c κs.
+    let e = c .before .before .before in
+    let x = e .before .before .before .before in
+    let z = x .before .before .before .before .pre in
+    let l = z .0 .1 .rules in
+    let a = x .admit .ensures (z .0 .0) (z .0 .1) (begins-stands (z .0 .2)) (z .0 .3) in
+    let s = entered-stands (x .admit .result) (a .0) (not-false (x .admit .result .passes) (e .if1 .left)) in (
+      (z .0 .0, z .0 .1, s .fits, a .1),
+      omega (arith, s .nogoods .room),
+      omega (arith, z .0 .2 .fits .open-task _ (z .1) .0, l .sound .tasks .most),
+      omega (arith, z .2, l .processors, l .sound .processors .most),
+    ))  -- refresh-requires
+    (λ c. search needs)  -- same-length-2
+    (λ c t l b k.
+    let e = c .before .before .before .before in
+    let x = e .before .before .before .before in
+    let a = x .admit .ensures t l (begins-stands b) k in
+    let passes = not-false (x .admit .result .passes) (e .if1 .left) in
+    let s = entered-stands (x .admit .result) (a .0) passes in
+    (entered-open (x .admit .result) (a .0) passes l b (c .refresh .ensures .0), c .refresh .ensures .1 t l (s .fits) (a .1))))  -- returns-2

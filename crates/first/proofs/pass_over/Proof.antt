@@ -1,7 +1,7 @@
 -- The task's region is entered, which lists a conflict where it is closed; otherwise its conflicts are listed.
 use borrow.Author.Needs.{needs}
 use borrow.Author.Tests.{not-true, not-false}
-use Rattle.first.proofs.Entering.{covering-closed, entered-begins, covering-open}
+use Rattle.first.proofs.Entering.{covering-closed, entered-begins, entered-none, covering-open}
 use Rattle.first.proofs.pass_over.Statement.{statement}
 use Rattle.first.proofs.pass_over.Tie as tie
 
@@ -9,22 +9,23 @@ pub pass-over-spec : {M : Type 1} → statement M
 pass-over-spec =
     tie.close
     (tie.spec
-    (λ c κs. let a = c .before .before .before .pre in ((a .0 .0, a .0 .1, a .0 .2, a .0 .3 .knows), a .1, a .2))  -- enter-requires
+    (λ c κs. let a = c .before .before .before .pre in ((a .0 .0, a .0 .1, a .0 .2 .0, a .0 .3 .knows), a .1, a .2))  -- admit-requires
     (λ c. search needs)  -- same-length
     (λ c t l b k.
     let e = c .before .before .before .before .before in
-    let x = e .enter .ensures t l b (k .knows) in
-    (covering-closed (e .enter .result) (x .0) (not-true (e .enter .result .passes) (c .if1 .taken)), record { knows = x .1; keeps = k .keeps }))  -- returns
+    let x = e .admit .ensures t l (b .0) (k .knows) in
+    (covering-closed (e .admit .result) (x .0) (not-true (e .admit .result .passes) (c .if1 .taken)), record { knows = x .1; keeps = k .keeps }))  -- returns
     (λ c κs.
     let e = c .before .before .before .before .before .before .before .before .before in
     let a = e .before .before .before .before .pre in
-    let x = e .enter .ensures (a .0 .0) (a .0 .1) (a .0 .2) (a .0 .3 .knows) in
-    (a .0 .0, a .0 .1, entered-begins (e .enter .result) (x .0) (not-false (e .enter .result .passes) (c .before .before .before .before .if1 .left)), record { knows = x .1; keeps = a .0 .3 .keeps }))  -- cover-requires
+    let x = e .admit .ensures (a .0 .0) (a .0 .1) (a .0 .2 .0) (a .0 .3 .knows) in
+    let f = not-false (e .admit .result .passes) (c .before .before .before .before .if1 .left) in
+    (a .0 .0, a .0 .1, (entered-begins (e .admit .result) (x .0) f, entered-none (e .admit .result) (x .0) f (a .0 .2 .1)), record { knows = x .1; keeps = a .0 .3 .keeps }))  -- cover-requires
     (λ c. search needs)  -- same-length-2
     (λ c t l b k.
     let d = c .before .before in
     let e = d .before .before .before .before .before .before .before .before .before .before in
-    let x = e .enter .ensures t l b (k .knows) in
-    let f = not-false (e .enter .result .passes) (d .before .before .before .before .before .if1 .left) in
-    let y = d .cover .ensures t l (entered-begins (e .enter .result) (x .0) f) (record { knows = x .1; keeps = k .keeps }) in
-    (covering-open (e .enter .result) (x .0) f (d .cover .result) (y .0), y .1)))  -- returns-2
+    let x = e .admit .ensures t l (b .0) (k .knows) in
+    let f = not-false (e .admit .result .passes) (d .before .before .before .before .before .if1 .left) in
+    let y = d .cover .ensures t l (entered-begins (e .admit .result) (x .0) f, entered-none (e .admit .result) (x .0) f (b .1)) (record { knows = x .1; keeps = k .keeps }) in
+    (covering-open (e .admit .result) (x .0) f (d .cover .result) (y .0), y .1)))  -- returns-2

@@ -39,14 +39,17 @@ try-processor-spec =
     let a = d .before .before .before .before .before .before .before .before .before .pre in
     let l = a .0 .1 in
     let w = a .0 .2 .placing in
-    ((a .0 .0, l, listing (l .rules .sound) w, d .decide-on .ensures (a .0 .0) l (deciding (l .rules .sound) w) (a .0 .3) .1), w .open-from _ (omega arith) (omega (arith, l .rules .tasks)), a .2))  -- pass-over-requires
+    let y = d .decide-on .ensures (a .0 .0) l (deciding (l .rules .sound) w) (a .0 .3) in
+    let none = rw (c .before .before .before .before .before .if3 .left) at (y .0) in
+    ((a .0 .0, l, (listing (l .rules .sound) w, none), y .1), w .open-from _ (omega arith) (omega (arith, l .rules .tasks)), a .2))  -- pass-over-requires
     (λ c. search needs)  -- same-length
     (λ c t l x k.
     let p = c .before .before in
     let d = p .before .before .before .before .before .before .before in
     let e = d .before .before .before .before .before .before in
     let y = d .decide-on .ensures t l (deciding (l .rules .sound) (x .placing)) k in
-    let z = p .pass-over .ensures t l (listing (l .rules .sound) (x .placing)) (y .1) in (
+    let none = rw (p .before .before .before .before .before .before .if3 .left) at (y .0) in
+    let z = p .pass-over .ensures t l (listing (l .rules .sound) (x .placing), none) (y .1) in (
       tried-listed x (d .decide-on .result) (y .0) (l .rules .sound) (p .before .before .before .before .before .before .if3 .left) (not-held (e .before .has .ensures) (e .if1 .left))
           (p .before .before .before .before .before .if4 .left) (p .pass-over .result) (z .0),
       z .1,

@@ -1,8 +1,8 @@
--- One element is written.
+-- One number is written.
 use mathlib.Core.Path.{ap}
 use Prim.Native.Nat.{ℕ}
 use borrow.Author.Needs.{needs}
-use lib.ListN.{set}
+use Rattle.heuristics.specs.Heuristics.{failures, with}
 use Rattle.heuristics.proofs.blame.Statement.{statement}
 use Rattle.heuristics.proofs.blame.Tie as tie
 
@@ -11,8 +11,10 @@ blame-spec =
     tie.close
     (tie.spec
     (λ c. search needs)  -- mul-heavier
-    (λ c. search needs)  -- element-copy-out-heavier
+    (λ c. search needs)  -- index-1-heavier
+    (λ c. search needs)  -- index-2-heavier
     (λ c κs. search needs)  -- heavier-requires
     (λ c. search needs)  -- mul-heuristics
-    (λ c. search needs)  -- element-write-heuristics
-    (λ c. let a = c .before .before .args in ap (λ (x : ℕ). set (a .heuristics .now) (a .k) x) (c .heavier .ensures)))  -- returns
+    (λ c. search needs)  -- index-1-heuristics
+    (λ c. search needs)  -- index-2-heuristics
+    (λ c. let a = c .before .before .args in ap (λ (x : ℕ). with (a .heuristics .now) failures (a .k) x) (c .heavier .ensures)))  -- returns

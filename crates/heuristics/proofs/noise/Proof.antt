@@ -8,10 +8,12 @@ pub noise-spec : {M : Type 1} → statement M
 noise-spec =
     tie.close
     (tie.spec
-    (λ c. search needs)  -- element-copy-out-wide
+    (λ c. search needs)  -- index-1-wide
+    (λ c. search needs)  -- index-2-wide
     (λ c κs. search needs)  -- wide-requires
     (λ c. search needs)  -- mul-next
     (λ c. search needs)  -- add-next
     (λ c. search needs)  -- cast-heuristics
-    (λ c. search needs)  -- element-write-heuristics
+    (λ c. search needs)  -- index-1-heuristics
+    (λ c. search needs)  -- index-2-heuristics
     (λ c. rw (c .wide .ensures .0) (refl, refl)))  -- returns

@@ -22,23 +22,24 @@ use Rattle.mask.proofs.remove.Reads as remove-reads
 use Rattle.knapsack.specs.declared.Pack.{Pack}
 use Rattle.knapsack.specs.Knapsack.{Packs}
 use Rattle.knapsack.proofs.Taking.{room-memory, room-load}
-use Rattle.knapsack.proofs.Packing.{taken-refused, taken-bad, taken-packs, taken-on, Same, raised, Raised, raised-packs, raised-at, raised-packed, Packing, packing-start, packing-packs, packing-task, packing-reach, packing-next, packing-end}
+use Rattle.knapsack.proofs.Packing.{taken-refused, taken-bad, taken-packs, taken-on, Same, begun-packs, begun-packed, Packing, packing-start, packing-packs, packing-task, packing-reach, packing-next, packing-end}
 use Rattle.knapsack.proofs.most.Reads as most
 use Rattle.knapsack.proofs.most.Kinds as most-kinds
 use Rattle.knapsack.proofs.+most+take.Lts-most as most-lts
 use Rattle.knapsack.proofs.take.Reads as take
 use Rattle.knapsack.proofs.take.Kinds as take-kinds
 use Rattle.knapsack.proofs.+most+take.Lts-take as take-lts
+use Rattle.knapsack.proofs.begin.Reads as begin-reads
 use Rattle.knapsack.proofs.room.Reads as room-reads
 use Rattle.numbers.proofs.wide.Reads as wide-reads
 use Rattle.knapsack.proofs.+most+take.{statement}
 use Rattle.knapsack.proofs.+most+take.Tie.{close}
 
 abbrev μ-most : Measures 3 most-kinds.ps ℕ
-μ-most κs a = 2 * (24 - a .1 .1 .1 .1 .0 .at) + 1
+μ-most κs a = 2 * (24 - a .1 .1 .1 .1 .1 .0 .at) + 1
 
 abbrev μ-take : Measures 3 take-kinds.ps ℕ
-μ-take κs a = 2 * (24 - a .1 .1 .1 .1 .0 .at) + 2
+μ-take κs a = 2 * (24 - a .1 .1 .1 .1 .1 .0 .at) + 2
 
 abbrev most-at : ℕ → In 3 most-kinds.ps
 most-at t = and 3 most-kinds.ps (is 3 most-kinds.ps μ-most t) most.Pre
@@ -53,26 +54,24 @@ abbrev take-below : ℕ → In 3 take-kinds.ps
 take-below t = and 3 take-kinds.ps (falls 3 take-kinds.ps _<_ μ-take t) take.Pre
 
 abbrev most-Inv-loop : most-lts.InvT-loop
-most-Inv-loop timing rows weights n mode list₀ count lateness₀ left₀ listed₀ list lateness left listed =
-    (left₀ .at ≤ left .at) × (length list ≡ length list₀) × Packs n timing left₀ list₀ count × Same left₀ left
+most-Inv-loop timing rows weights order n mode list₀ count lateness₀ left₀ listed₀ list lateness left listed =
+    (24 - left .at ≤ 24 - left₀ .at) × (length list ≡ length list₀) × Packs n timing left₀ list₀ count × Same left₀ left
     × Packing n (tasksOf n timing) mode (memoryRow rows) (exclusionRow rows) (loadRow rows) weights left₀ list₀ count
     (left .candidates) (left .reach) (left .best) list listed
     × LateCache (tasksOf n timing) lateness
 
 abbrev most-μ-loop : most-lts.MeasureT-loop
-most-μ-loop timing rows weights n mode list₀ count lateness₀ left₀ listed₀ list lateness left listed =
+most-μ-loop timing rows weights order n mode list₀ count lateness₀ left₀ listed₀ list lateness left listed =
     24 - left .at
 
 -- a test that passed
 passed : {a b : Bool} → a ≡ b → a ≡ true → T b
 passed e f = rw (← e, f) tt
 
--- what the loop begins with: the best raised, or as it was
-raised-from : {pack left : Pack} {A B : Type 0} → (A → pack .best < pack .weight) → (A × (left ≡ raised pack (pack .weight))) ⊎ (B × (left ≡ pack)) → Raised pack left
-raised-from {pack} f = ⊎-elim (λ w. (pack .weight, omega (arith, f (w .0)), w .1)) (λ w. (pack .best, omega arith, w .1))
-
 pub +most+take-spec : {M : Type 1} → statement M
 +most+take-spec = close μ-most μ-take (λ t. most-lts.spec (
+  begin-reads.Asked,
+  begin-reads.Learnt,
   has-reads.Asked,
   has-reads.Learnt,
   remove-reads.Asked,
@@ -86,13 +85,13 @@ pub +most+take-spec : {M : Type 1} → statement M
     most.Post
     most-Inv-loop
     most-μ-loop
+    (λ c κs. search needs)  -- begin-requires
     (λ c.
-    let p = c .before .before .before .pre .1 in
-    let raise = raised-from (λ w. w .taken) (c .if1 .came) in
-    (omega arith, refl, raised-packs raise (p .0), (refl, refl, refl, refl, refl), packing-start raise (p .0) (p .1), p .2))  -- loop-holds
+    let p = c .before .before .pre .1 in
+    let b = c .begin .ensures in
+    (omega arith, refl, begun-packs b (p .0), (refl, refl, refl, refl, refl), packing-start b (p .0) (p .1), p .2))  -- loop-holds
     (λ c. search needs)  -- mul-k
-    (λ c. search needs)  -- index-1-k
-    (λ c. search needs)  -- index-2-k
+    (λ c. search needs)  -- element-copy-out-k
     (λ c. search needs)  -- cast-k
     (λ c. search needs)  -- add-left
     (λ c κs. search needs)  -- has-requires
@@ -103,8 +102,8 @@ pub +most+take-spec : {M : Type 1} → statement M
     let t2 = h .before .before .before .before .before .before in
     let i = t2 .before .before in
     let v = i .loop .inv in
-    let u = passed (h .has .ensures) (r .before .if5 .taken) in (
-      omega (arith, i .before .before .before .before .pre .0, raised-at (raised-from (λ w. w .taken) (i .before .if1 .came)), v .0, t2 .if2 .taken),
+    let u = passed (h .has .ensures) (r .before .if4 .taken) in (
+      omega (arith, i .before .before .before .pre .0, i .before .begin .ensures .no-more, v .0, t2 .if1 .taken),
       (
         packing-packs (v .2) (v .4) _ u (v .3) (r .remove .ensures),
         packing-task (v .2) (v .4) _ u,
@@ -117,40 +116,40 @@ pub +most+take-spec : {M : Type 1} → statement M
     let r = c .before .before .before .before .before in
     let h = r .before .before in
     let v = h .before .before .before .before .before .before .before .before .loop .inv in
-    omega (arith, v .2 .limits .few, packing-task (v .2) (v .4) _ (passed (h .has .ensures) (r .before .if5 .taken))))  -- element-copy-out-wide
+    omega (arith, v .2 .limits .few, packing-task (v .2) (v .4) _ (passed (h .has .ensures) (r .before .if4 .taken))))  -- element-copy-out-wide
     (λ c κs. search needs)  -- wide-requires
     (λ c.
     let r = c .before .before .before .before .before .before .before .before in
     let h = r .before .before in
     let v = h .before .before .before .before .before .before .before .before .loop .inv in
-    omega (arith, c .before .wide .ensures .0, packing-reach (v .2) (v .4) _ (passed (h .has .ensures) (r .before .if5 .taken))))  -- sub-left
-    (λ c. omega (arith, c .before .before .before .before .before .before .before .before .before .before .before .before .before .before .before .before .if2 .taken))  -- loop-less
+    omega (arith, c .before .wide .ensures .0, packing-reach (v .2) (v .4) _ (passed (h .has .ensures) (r .before .if4 .taken))))  -- sub-left
+    (λ c. omega (arith, c .before .before .before .before .before .before .before .before .before .before .before .before .before .before .before .before .if1 .taken))  -- loop-less
     (λ c.
     let x = c .before .before .before .before .before in
     let r = x .before .before .before in
     let h = r .before .before in
     let v = h .before .before .before .before .before .before .before .before .loop .inv in
-    let u = passed (h .has .ensures) (r .before .if5 .taken) in (
+    let u = passed (h .has .ensures) (r .before .if4 .taken) in (
       omega (arith, v .0),
-      x .take .kept .1 .1 .1 .1 .1 .1 .1 .0 ∙ v .1,
+      x .take .kept .1 .1 .1 .1 .1 .1 .1 .1 .0 ∙ v .1,
       v .2,
       v .3,
       rw (r .remove .ensures, c .before .wide .ensures .0) (packing-next (v .2) (v .4) _ u (v .3) (r .remove .ensures) refl (x .take .result) (x .take .ensures .0)),
       x .take .ensures .1,
     ))  -- loop-again
-    (λ c. omega (arith, c .before .before .before .before .before .before .before .if2 .taken))  -- loop-less-2
+    (λ c. omega (arith, c .before .before .before .before .before .before .before .if1 .taken))  -- loop-less-2
     (λ c. let v = c .before .before .before .before .before .before .before .before .before .loop .inv in (omega (arith, v .0), v .1, v .2, v .3, v .4, v .5))  -- loop-again-2
     (λ c. search needs)  -- same-length
     (λ c.
     let i = c .before .before .before .before .before .before in
     let v = i .loop .inv in
-    (raised-packed (raised-from (λ w. w .taken) (i .before .if1 .came)) _ (packing-end (v .2) (v .4) _ (omega (arith, ltb-true (i .loop .left .best) (i .loop .left .reach) (c .if7 .taken))) (inr (omega arith))), v .5))  -- returns
+    (begun-packed (i .before .begin .ensures) _ (packing-end (v .2) (v .4) _ (omega (arith, ltb-true (i .loop .left .best) (i .loop .left .reach) (c .if6 .taken))) (inr (omega arith))), v .5))  -- returns
     (λ c. search needs)  -- same-length-2
     (λ c.
     let i = c .before .before .before .before in
     let v = i .loop .inv in (
-      raised-packed (raised-from (λ w. w .taken) (i .before .if1 .came)) _ (packing-end (v .2) (v .4) _ (omega arith)
-          (⊎-elim (λ w. inr (ltb-false (i .loop .left .best) (i .loop .left .reach) (w .2 .left))) (λ w. inl (omega (arith, w .left, v .3 .4))) (c .if6 .came))),
+      begun-packed (i .before .begin .ensures) _ (packing-end (v .2) (v .4) _ (omega arith)
+          (⊎-elim (λ w. inr (ltb-false (i .loop .left .best) (i .loop .left .reach) (w .2 .left))) (λ w. inl (omega (arith, w .left, v .3 .4))) (c .if5 .came))),
       v .5,
     )))  -- returns-2
     λ t. take-lts.spec (

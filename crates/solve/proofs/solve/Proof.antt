@@ -24,15 +24,17 @@ solve-spec =
     let h = z .before .before .pre .0 in
     let sizes = z .sizes-of .ensures in
     (order-limits h sizes (t .timing-of .ensures), omega (arith, h .processors .most, sizes .processors), omega (arith, h .messages .most, sizes .messages)))  -- ordered-requires
-    (λ c. search needs)  -- array-write-heuristics
-    (λ c. search needs)  -- array-write-heuristics-2
+    (λ c. search needs)  -- index-1-heuristics
+    (λ c. search needs)  -- index-2-heuristics
+    (λ c. search needs)  -- index-1-heuristics-2
+    (λ c. search needs)  -- index-2-heuristics-2
     (λ c κs.
     let g = c .before .before .before .before .before .before .before in
     let v = g .before .before .before .before in
     let b = v .before .before .before .before .before .before in
     let kept = ordered-rows _ _ _ _ _ (g .ordered .ensures) in
     let l = lends-table (b .pre .0) (v .before .before .before .before .sizes-of .ensures) (v .before .before .before .timing-of .ensures) (v .before .before .rows-of .ensures) (v .before .messages-of .ensures) kept in
-    ((b .args .table, l, rw (v .start .ensures) (started (b .pre .0 .processors .most)), learnt-start (late-cache-start _ 16384)), b .pre .1))  -- run-requires
+    ((b .args .table, l, rw (v .start .ensures) (started (b .pre .0 .processors .most)), learnt-start (late-cache-start _ 73728)), b .pre .1))  -- run-requires
     (λ c. search needs)  -- same-length
     (λ c.
     let r = c .before .before in
@@ -41,4 +43,4 @@ solve-spec =
     let b = v .before .before .before .before .before .before in
     let kept = ordered-rows _ _ _ _ _ (g .ordered .ensures) in
     let l = lends-table (b .pre .0) (v .before .before .before .before .sizes-of .ensures) (v .before .before .before .timing-of .ensures) (v .before .before .rows-of .ensures) (v .before .messages-of .ensures) kept in
-    r .solve-from .ensures (b .args .table) l (rw (v .start .ensures) (started (b .pre .0 .processors .most))) (learnt-start (late-cache-start _ 16384))))  -- returns
+    r .solve-from .ensures (b .args .table) l (rw (v .start .ensures) (started (b .pre .0 .processors .most))) (learnt-start (late-cache-start _ 73728))))  -- returns

@@ -30,7 +30,9 @@ solve-from-spec =
     let b = d .before .before .before .before .before in
     let a = b .pre .0 in
     let h = a .1 .rules .sound in
-    (a .0, a .1, start-listing h (a .2) (b .args .list .now) (b .pre .1), d .decide .ensures (a .0) (a .1) (start-deciding h (a .2)) (a .3) .1))  -- cover-requires
+    let x = d .decide .ensures (a .0) (a .1) (start-deciding h (a .2)) (a .3) in
+    let none = rw (c .before .before .before .before .if1 .left) at (x .0) in
+    (a .0, a .1, (start-listing h (a .2) (b .args .list .now) (b .pre .1), none), x .1))  -- cover-requires
     (λ c. search needs)  -- same-length-2
     (λ c t l w k.
     let g = c .before .before .before in
@@ -39,4 +41,4 @@ solve-from-spec =
     let h = l .rules .sound in
     let x = d .decide .ensures t l (start-deciding h w) k in
     solved-none h w (b .args .list .now) (b .pre .1) (d .decide .result) (x .0) (g .before .before .before .before .before .if1 .left)
-    (g .cover .result) (g .cover .ensures t l (start-listing h w (b .args .list .now) (b .pre .1)) (x .1) .0) (b .args .s .on)))  -- returns-2
+    (g .cover .result) (g .cover .ensures t l (start-listing h w (b .args .list .now) (b .pre .1), rw (g .before .before .before .before .before .if1 .left) at (x .0)) (x .1) .0) (b .args .s .on)))  -- returns-2
