@@ -5,7 +5,7 @@ ghost use Prim.Native.Nat.{_+_, _*_, _≤_, _<_};
 ghost use lib.Dec.{T};
 ghost use Rattle.mask.specs.Mask.{below};
 ghost use Rattle.region.specs.Given.{Given, Gives};
-ghost use Rattle.bound_cache.specs.BoundCache.{Learnt};
+ghost use Rattle.bound_cache.specs.BoundCache.{LearntOf};
 ghost use Rattle.capacity_bound.specs.Bound.{BoundedAs};
 ghost use Rattle.capacity_bound.specs.CapacityBound.{heaviest, Weighable};
 ghost use Rattle.subgradient.specs.Subgradient.{AtMost};
@@ -211,11 +211,11 @@ fn descend<'a>(
     bounds: &mut BoundCache,
 ) -> Descended
     requires { ⌜ Given sizes (now timing) (now rows) (now messages)
-        (λ t. Weighable t mode s sets (now list) count) (λ t. Learnt t (now rows) (now lateness) (now bounds))
+        (λ t. Weighable t mode s sets (now list) count) (λ t. LearntOf t (now list) count (now rows) (now lateness) (now bounds))
         × (pace .far ≤ 8) × (pace .alpha ≤ 100) × (pace .rounds ≤ 256) ⌝ }
     ensures { λ r. ⌜ Gives sizes (now (timing .entry)) (now (rows .entry)) (now (messages .entry))
-        (λ t. Weighable t mode s sets (now (list .entry)) count) (λ t. Learnt t (now (rows .entry)) (now (lateness .entry)) (now (bounds .entry)))
-        (λ t. BoundedAs t mode s (now (list .entry)) count (now (list .exit)) (r .bounded) × Learnt t (now (rows .entry)) (now (lateness .exit)) (now (bounds .exit))) ⌝ }
+        (λ t. Weighable t mode s sets (now (list .entry)) count) (λ t. LearntOf t (now (list .entry)) count (now (rows .entry)) (now (lateness .entry)) (now (bounds .entry)))
+        (λ t. BoundedAs t mode s (now (list .entry)) count (now (list .exit)) (r .bounded) × LearntOf t (now (list .exit)) (r .bounded .count) (now (rows .entry)) (now (lateness .exit)) (now (bounds .exit))) ⌝ }
 {
     let mut descent = begin(from, pace);
     let mut listed = count;
@@ -284,10 +284,10 @@ pub fn refute<'a>(
     bounds: &mut BoundCache,
 ) -> Bounded
     requires { ⌜ Given sizes (now timing) (now rows) (now messages)
-        (λ t. Weighable t mode s sets (now list) count) (λ t. Learnt t (now rows) (now lateness) (now bounds)) ⌝ }
+        (λ t. Weighable t mode s sets (now list) count) (λ t. LearntOf t (now list) count (now rows) (now lateness) (now bounds)) ⌝ }
     ensures { λ r. ⌜ Gives sizes (now (timing .entry)) (now (rows .entry)) (now (messages .entry))
-        (λ t. Weighable t mode s sets (now (list .entry)) count) (λ t. Learnt t (now (rows .entry)) (now (lateness .entry)) (now (bounds .entry)))
-        (λ t. BoundedAs t mode s (now (list .entry)) count (now (list .exit)) r × Learnt t (now (rows .entry)) (now (lateness .exit)) (now (bounds .exit)))
+        (λ t. Weighable t mode s sets (now (list .entry)) count) (λ t. LearntOf t (now (list .entry)) count (now (rows .entry)) (now (lateness .entry)) (now (bounds .entry)))
+        (λ t. BoundedAs t mode s (now (list .entry)) count (now (list .exit)) r × LearntOf t (now (list .exit)) (r .count) (now (rows .entry)) (now (lateness .exit)) (now (bounds .exit)))
         × OnlyRow (rowFor (s .left)) (now (heuristics .entry)) (now (heuristics .exit)) ⌝ }
 {
     let open = WEIGHTS + u32::count_ones(s.left) as usize;
@@ -332,10 +332,10 @@ pub fn refute_all<'a>(
     bounds: &mut BoundCache,
 ) -> Bounded
     requires { ⌜ Given sizes (now timing) (now rows) (now messages)
-        (λ t. Weighable t mode s sets (now list) count) (λ t. Learnt t (now rows) (now lateness) (now bounds)) ⌝ }
+        (λ t. Weighable t mode s sets (now list) count) (λ t. LearntOf t (now list) count (now rows) (now lateness) (now bounds)) ⌝ }
     ensures { λ r. ⌜ Gives sizes (now (timing .entry)) (now (rows .entry)) (now (messages .entry))
-        (λ t. Weighable t mode s sets (now (list .entry)) count) (λ t. Learnt t (now (rows .entry)) (now (lateness .entry)) (now (bounds .entry)))
-        (λ t. BoundedAs t mode s (now (list .entry)) count (now (list .exit)) r × Learnt t (now (rows .entry)) (now (lateness .exit)) (now (bounds .exit)))
+        (λ t. Weighable t mode s sets (now (list .entry)) count) (λ t. LearntOf t (now (list .entry)) count (now (rows .entry)) (now (lateness .entry)) (now (bounds .entry)))
+        (λ t. BoundedAs t mode s (now (list .entry)) count (now (list .exit)) r × LearntOf t (now (list .exit)) (r .count) (now (rows .entry)) (now (lateness .exit)) (now (bounds .exit)))
         × OnlyRoot (s .left) (now (heuristics .entry)) (now (heuristics .exit)) ⌝ }
 {
     let mut from = heuristics[ROOT];

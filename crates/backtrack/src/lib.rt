@@ -8,7 +8,7 @@ ghost use Rattle.mask.specs.Mask.{has};
 ghost use Rattle.rules.specs.Sets.{standing};
 ghost use Rattle.region.specs.Begins.{Begins};
 ghost use Rattle.region.specs.Given.{Given, Gives};
-ghost use Rattle.bound_cache.specs.BoundCache.{Learnt};
+ghost use Rattle.bound_cache.specs.BoundCache.{LearntOf};
 ghost use Rattle.backtrack.specs.Backtrack.{ExploredAs, BacktrackedIn};
 use bound_cache::BoundCache;
 use heuristics::FUEL;
@@ -85,11 +85,11 @@ fn explore<'a>(
     lateness: &mut LateCache,
     bounds: &mut BoundCache,
 ) -> Backtracked
-    requires { ⌜ Given sizes (now timing) (now rows) (now messages) (λ t. Begins t mode s (now list) count) (λ t. Learnt t (now rows) (now lateness) (now bounds))
+    requires { ⌜ Given sizes (now timing) (now rows) (now messages) (λ t. Begins t mode s (now list) count) (λ t. LearntOf t (now list) count (now rows) (now lateness) (now bounds))
         × T (has (s .left) k) × (p < sizes .processors) ⌝ }
     ensures { λ r. ⌜ Gives sizes (now (timing .entry)) (now (rows .entry)) (now (messages .entry))
-        (λ t. Begins t mode s (now (list .entry)) count) (λ t. Learnt t (now (rows .entry)) (now (lateness .entry)) (now (bounds .entry)))
-        (λ t. ExploredAs t mode s k p (now (list .entry)) count (now (list .exit)) r × Learnt t (now (rows .entry)) (now (lateness .exit)) (now (bounds .exit))) ⌝ }
+        (λ t. Begins t mode s (now (list .entry)) count) (λ t. LearntOf t (now (list .entry)) count (now (rows .entry)) (now (lateness .entry)) (now (bounds .entry)))
+        (λ t. ExploredAs t mode s k p (now (list .entry)) count (now (list .exit)) r × LearntOf t (now (list .exit)) (r .count) (now (rows .entry)) (now (lateness .exit)) (now (bounds .exit))) ⌝ }
 {
     let on = s.on;
     if !mode.listing {
@@ -161,11 +161,11 @@ fn branch<'a>(
     lateness: &mut LateCache,
     bounds: &mut BoundCache,
 ) -> Backtracked
-    requires { ⌜ Given sizes (now timing) (now rows) (now messages) (λ t. Begins t mode s (now list) count) (λ t. Learnt t (now rows) (now lateness) (now bounds))
+    requires { ⌜ Given sizes (now timing) (now rows) (now messages) (λ t. Begins t mode s (now list) count) (λ t. LearntOf t (now list) count (now rows) (now lateness) (now bounds))
         × (0 < s .left) ⌝ }
     ensures { λ r. ⌜ Gives sizes (now (timing .entry)) (now (rows .entry)) (now (messages .entry))
-        (λ t. Begins t mode s (now (list .entry)) count) (λ t. Learnt t (now (rows .entry)) (now (lateness .entry)) (now (bounds .entry)))
-        (λ t. BacktrackedIn t mode (standing (s .on)) (now (list .entry)) count (now (list .exit)) r × Learnt t (now (rows .entry)) (now (lateness .exit)) (now (bounds .exit))) ⌝ }
+        (λ t. Begins t mode s (now (list .entry)) count) (λ t. LearntOf t (now (list .entry)) count (now (rows .entry)) (now (lateness .entry)) (now (bounds .entry)))
+        (λ t. BacktrackedIn t mode (standing (s .on)) (now (list .entry)) count (now (list .exit)) r × LearntOf t (now (list .exit)) (r .count) (now (rows .entry)) (now (lateness .exit)) (now (bounds .exit))) ⌝ }
 {
     let on = s.on;
     let may = s.may;
@@ -219,10 +219,10 @@ pub fn backtrack<'a>(
     lateness: &mut LateCache,
     bounds: &mut BoundCache,
 ) -> Backtracked
-    requires { ⌜ Given sizes (now timing) (now rows) (now messages) (λ t. Begins t mode s (now list) count) (λ t. Learnt t (now rows) (now lateness) (now bounds)) ⌝ }
+    requires { ⌜ Given sizes (now timing) (now rows) (now messages) (λ t. Begins t mode s (now list) count) (λ t. LearntOf t (now list) count (now rows) (now lateness) (now bounds)) ⌝ }
     ensures { λ r. ⌜ Gives sizes (now (timing .entry)) (now (rows .entry)) (now (messages .entry))
-        (λ t. Begins t mode s (now (list .entry)) count) (λ t. Learnt t (now (rows .entry)) (now (lateness .entry)) (now (bounds .entry)))
-        (λ t. BacktrackedIn t mode (standing (s .on)) (now (list .entry)) count (now (list .exit)) r × Learnt t (now (rows .entry)) (now (lateness .exit)) (now (bounds .exit))) ⌝ }
+        (λ t. Begins t mode s (now (list .entry)) count) (λ t. LearntOf t (now (list .entry)) count (now (rows .entry)) (now (lateness .entry)) (now (bounds .entry)))
+        (λ t. BacktrackedIn t mode (standing (s .on)) (now (list .entry)) count (now (list .exit)) r × LearntOf t (now (list .exit)) (r .count) (now (rows .entry)) (now (lateness .exit)) (now (bounds .exit))) ⌝ }
 {
     let on = s.on;
     if gives_up(mode.limited, heuristics) {

@@ -2,7 +2,7 @@
 ghost use mathlib.Core.Path.{_≡_};
 ghost use Rattle.region.specs.Begins.{Begins, Opens};
 ghost use Rattle.region.specs.Given.{Given, Gives};
-ghost use Rattle.bound_cache.specs.BoundCache.{Learnt};
+ghost use Rattle.bound_cache.specs.BoundCache.{LearntOf};
 ghost use Rattle.capacity_bound.specs.Bound.{BoundedAs};
 ghost use Rattle.capacity_bound.specs.CapacityBound.{Weighable};
 ghost use Rattle.bound.specs.Due.{adapts, isDue, askedHeuristics, creditAfter, triedHeuristics, boundHeuristics, AdaptedAs};
@@ -39,10 +39,10 @@ fn by_rows<'a>(
     bounds: &mut BoundCache,
 ) -> Bounded
     requires { ⌜ Given sizes (now timing) (now rows) (now messages)
-        (λ t. Weighable t mode s sets (now list) count) (λ t. Learnt t (now rows) (now lateness) (now bounds)) ⌝ }
+        (λ t. Weighable t mode s sets (now list) count) (λ t. LearntOf t (now list) count (now rows) (now lateness) (now bounds)) ⌝ }
     ensures { λ r. ⌜ Gives sizes (now (timing .entry)) (now (rows .entry)) (now (messages .entry))
-        (λ t. Weighable t mode s sets (now (list .entry)) count) (λ t. Learnt t (now (rows .entry)) (now (lateness .entry)) (now (bounds .entry)))
-        (λ t. BoundedAs t mode s (now (list .entry)) count (now (list .exit)) r × Learnt t (now (rows .entry)) (now (lateness .exit)) (now (bounds .exit))) ⌝ }
+        (λ t. Weighable t mode s sets (now (list .entry)) count) (λ t. LearntOf t (now (list .entry)) count (now (rows .entry)) (now (lateness .entry)) (now (bounds .entry)))
+        (λ t. BoundedAs t mode s (now (list .entry)) count (now (list .exit)) r × LearntOf t (now (list .exit)) (r .count) (now (rows .entry)) (now (lateness .exit)) (now (bounds .exit))) ⌝ }
 {
     let mut hopeless = false;
     let mut listed = count;
@@ -90,10 +90,10 @@ fn try_all<'a>(
     lateness: &mut LateCache,
     bounds: &mut BoundCache,
 ) -> Bounded
-    requires { ⌜ Given sizes (now timing) (now rows) (now messages) (λ t. Weighable t mode s sets (now list) count) (λ t. Learnt t (now rows) (now lateness) (now bounds)) ⌝ }
+    requires { ⌜ Given sizes (now timing) (now rows) (now messages) (λ t. Weighable t mode s sets (now list) count) (λ t. LearntOf t (now list) count (now rows) (now lateness) (now bounds)) ⌝ }
     ensures { λ r. ⌜ Gives sizes (now (timing .entry)) (now (rows .entry)) (now (messages .entry))
-        (λ t. Weighable t mode s sets (now (list .entry)) count) (λ t. Learnt t (now (rows .entry)) (now (lateness .entry)) (now (bounds .entry)))
-        (λ t. BoundedAs t mode s (now (list .entry)) count (now (list .exit)) r × Learnt t (now (rows .entry)) (now (lateness .exit)) (now (bounds .exit)))
+        (λ t. Weighable t mode s sets (now (list .entry)) count) (λ t. LearntOf t (now (list .entry)) count (now (rows .entry)) (now (lateness .entry)) (now (bounds .entry)))
+        (λ t. BoundedAs t mode s (now (list .entry)) count (now (list .exit)) r × LearntOf t (now (list .exit)) (r .count) (now (rows .entry)) (now (lateness .exit)) (now (bounds .exit)))
         × AdaptedAs (adapts (now (heuristics .entry))) (s .left) (now (heuristics .entry)) (now (heuristics .exit)) ⌝ }
 {
     let remote = network_bound::crossing(
@@ -155,10 +155,10 @@ fn try_tested<'a>(
     lateness: &mut LateCache,
     bounds: &mut BoundCache,
 ) -> Bounded
-    requires { ⌜ Given sizes (now timing) (now rows) (now messages) (λ t. Opens t s (now list) count) (λ t. Learnt t (now rows) (now lateness) (now bounds)) ⌝ }
+    requires { ⌜ Given sizes (now timing) (now rows) (now messages) (λ t. Opens t s (now list) count) (λ t. LearntOf t (now list) count (now rows) (now lateness) (now bounds)) ⌝ }
     ensures { λ r. ⌜ Gives sizes (now (timing .entry)) (now (rows .entry)) (now (messages .entry))
-        (λ t. Opens t s (now (list .entry)) count) (λ t. Learnt t (now (rows .entry)) (now (lateness .entry)) (now (bounds .entry)))
-        (λ t. BoundedAs t mode s (now (list .entry)) count (now (list .exit)) r × Learnt t (now (rows .entry)) (now (lateness .exit)) (now (bounds .exit)))
+        (λ t. Opens t s (now (list .entry)) count) (λ t. LearntOf t (now (list .entry)) count (now (rows .entry)) (now (lateness .entry)) (now (bounds .entry)))
+        (λ t. BoundedAs t mode s (now (list .entry)) count (now (list .exit)) r × LearntOf t (now (list .exit)) (r .count) (now (rows .entry)) (now (lateness .exit)) (now (bounds .exit)))
         × AdaptedAs (adapts (now (heuristics .entry))) (s .left) (now (heuristics .entry)) (now (heuristics .exit)) ⌝ }
 {
     let candidates = candidates::candidates_of(
@@ -245,10 +245,10 @@ pub fn bound<'a>(
     lateness: &mut LateCache,
     bounds: &mut BoundCache,
 ) -> Bounded
-    requires { ⌜ Given sizes (now timing) (now rows) (now messages) (λ t. Begins t mode s (now list) count) (λ t. Learnt t (now rows) (now lateness) (now bounds)) ⌝ }
+    requires { ⌜ Given sizes (now timing) (now rows) (now messages) (λ t. Begins t mode s (now list) count) (λ t. LearntOf t (now list) count (now rows) (now lateness) (now bounds)) ⌝ }
     ensures { λ r. ⌜ Gives sizes (now (timing .entry)) (now (rows .entry)) (now (messages .entry))
-        (λ t. Begins t mode s (now (list .entry)) count) (λ t. Learnt t (now (rows .entry)) (now (lateness .entry)) (now (bounds .entry)))
-        (λ t. BoundedAs t mode s (now (list .entry)) count (now (list .exit)) r × Learnt t (now (rows .entry)) (now (lateness .exit)) (now (bounds .exit)))
+        (λ t. Begins t mode s (now (list .entry)) count) (λ t. LearntOf t (now (list .entry)) count (now (rows .entry)) (now (lateness .entry)) (now (bounds .entry)))
+        (λ t. BoundedAs t mode s (now (list .entry)) count (now (list .exit)) r × LearntOf t (now (list .exit)) (r .count) (now (rows .entry)) (now (lateness .exit)) (now (bounds .exit)))
         × AdaptedAs (adapts (now (heuristics .entry))) (s .left) (boundHeuristics (s .left) (r .hopeless) (now (heuristics .entry))) (now (heuristics .exit)) ⌝ }
 {
     if !due(s.left, heuristics) {

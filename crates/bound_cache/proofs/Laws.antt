@@ -16,8 +16,9 @@ use Rattle.mask.proofs.Tests.{and-left, and-right}
 use Rattle.table.specs.declared.Table.{Table}
 use Rattle.timing.specs.Timing.{tasksIn}
 use Rattle.late_cache.specs.LateCache.{LateCache}
+use Rattle.nogoods.proofs.Covers.{known-forgot}
 use Rattle.bound_cache.specs.declared.Recalled.{Recalled}
-use Rattle.bound_cache.specs.BoundCache.{Capped, Entry, BoundCache, Learnt, entryOf, isFor, recallOf, keepOf}
+use Rattle.bound_cache.specs.BoundCache.{Capped, Entry, BoundCache, Learnt, LearntOf, entryOf, isFor, recallOf, keepOf}
 
 -- an entry of zeros has no candidates
 zeros-cap : {t : Table} {rows : List (List ℕ)} (n j : ℕ) → Entry t rows (replicate n 0) j
@@ -31,6 +32,14 @@ bound-cache-start = record { long = length-replicate {A = ℕ} 12288 0; entries 
 
 pub learnt-start : {t : Table} {rows : List (List ℕ)} {lateness : List ℕ} → LateCache (tasksIn t) lateness → Learnt t rows lateness (replicate 12288 0)
 learnt-start k = record { knows = k; keeps = bound-cache-start }
+
+-- beside a list: any, once the table of covered sets was given up
+module _ {t : Table} {list : List ℕ} {count : ℕ} {rows : List (List ℕ)} {bounds : List ℕ} where
+  pub learnt-forgot : {old lateness : List ℕ} → Learnt t rows old bounds → lateness ≡ set old 81920 0 → LearntOf t list count rows lateness bounds
+  learnt-forgot k e = record { knows = known-forgot (k .knows) e list count; keeps = k .keeps }
+
+  pub learnt-of : {lateness : List ℕ} → LearntOf t list count rows lateness bounds → Learnt t rows lateness bounds
+  learnt-of k = record { knows = k .knows .late; keeps = k .keeps }
 
 -- ---- what is found
 

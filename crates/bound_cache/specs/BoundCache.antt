@@ -11,6 +11,7 @@ use Rattle.schedule.specs.Periodic.{LateSet}
 use Rattle.timing.specs.Timing.{tasksIn}
 use Rattle.rows.specs.Rows.{loadsOf, exclusionsOf, weightsIn}
 use Rattle.late_cache.specs.LateCache.{LateCache}
+use Rattle.nogoods.specs.Nogoods.{KnownSets}
 use Rattle.knapsack.specs.Knapsack.{weightOf, Takes}
 use Rattle.bound_cache.specs.declared.Recalled.{Recalled}
 
@@ -28,9 +29,14 @@ pub record BoundCache (t : Table) (rows : List (List ℕ)) (bounds : List ℕ) :
   pub long : length bounds ≡ 12288
   pub entries : (j : ℕ) → j < 2048 → Entry t rows bounds (6 * j)
 
--- the two tables that the search fills
+-- the two tables that the search fills, as long as no list of conflicts is in hand
 pub record Learnt (t : Table) (rows : List (List ℕ)) (lateness bounds : List ℕ) : Type 0 where
   pub knows : LateCache (tasksIn t) lateness
+  pub keeps : BoundCache t rows bounds
+
+-- the same beside a list of conflicts
+pub record LearntOf (t : Table) (list : List ℕ) (count : ℕ) (rows : List (List ℕ)) (lateness bounds : List ℕ) : Type 0 where
+  pub knows : KnownSets (tasksIn t) list count lateness
   pub keeps : BoundCache t rows bounds
 
 -- the number of the entry for these tasks, candidates, row and memory left: the high bits of a sum of products

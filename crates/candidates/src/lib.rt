@@ -10,8 +10,7 @@ ghost use Rattle.schedule.specs.Arrays.{tasksOf, InLimits};
 ghost use Rattle.timing.specs.Timing.{tasksIn};
 ghost use Rattle.partial.specs.declared.State.{State};
 ghost use Rattle.partial.specs.Partial.{Fits, siteOf};
-ghost use Rattle.late_cache.specs.LateCache.{LateCache};
-ghost use Rattle.nogoods.specs.Nogoods.{full};
+ghost use Rattle.nogoods.specs.Nogoods.{full, KnownSets};
 ghost use Rattle.region.specs.Lends.{Lends};
 ghost use Rattle.region.specs.Begins.{Opens, withMay};
 ghost use Rattle.region.specs.Given.{Given, Gives};
@@ -60,10 +59,10 @@ fn join<'a>(
     lateness: &mut LateCache,
 ) -> Joining
     requires { ⌜ ((t : Table) × (s : State) × Lends t sizes (now timing) (now rows) (now messages) × Opens t s (now list) count × (site ≡ siteOf s p)
-        × LateCache (tasksIn t) (now lateness)) × T (has (site .left) k) × (p < sizes .processors) ⌝ }
+        × KnownSets (tasksIn t) (now list) count (now lateness)) × T (has (site .left) k) × (p < sizes .processors) ⌝ }
     ensures { λ r. ⌜ ((t : Table) (s : State) → Lends t sizes (now (timing .entry)) (now (rows .entry)) (now (messages .entry))
-        → Opens t s (now (list .entry)) count → site ≡ siteOf s p → LateCache (tasksIn t) (now (lateness .entry))
-        → JoinsAs t mode s k p (now (list .entry)) count (now (list .exit)) r × LateCache (tasksIn t) (now (lateness .exit))) ⌝ }
+        → Opens t s (now (list .entry)) count → site ≡ siteOf s p → KnownSets (tasksIn t) (now (list .entry)) count (now (lateness .entry))
+        → JoinsAs t mode s k p (now (list .entry)) count (now (list .exit)) r × KnownSets (tasksIn t) (now (list .exit)) (r .count) (now (lateness .exit))) ⌝ }
 {
     if !partial::allows(rows, messages, sizes, site, k, p) {
         return Joining { able: false, count };
@@ -89,11 +88,11 @@ fn candidates_on<'a>(
     count: usize,
     lateness: &mut LateCache,
 ) -> Chosen
-    requires { ⌜ Given sizes (now timing) (now rows) (now messages) (λ t. Opens t s (now list) count) (λ t. LateCache (tasksIn t) (now lateness))
+    requires { ⌜ Given sizes (now timing) (now rows) (now messages) (λ t. Opens t s (now list) count) (λ t. KnownSets (tasksIn t) (now list) count (now lateness))
         × (p < sizes .processors) ⌝ }
     ensures { λ r. ⌜ Gives sizes (now (timing .entry)) (now (rows .entry)) (now (messages .entry))
-        (λ t. Opens t s (now (list .entry)) count) (λ t. LateCache (tasksIn t) (now (lateness .entry)))
-        (λ t. ChosenAs t mode s p (now (list .entry)) count (now (list .exit)) r × LateCache (tasksIn t) (now (lateness .exit))) ⌝ }
+        (λ t. Opens t s (now (list .entry)) count) (λ t. KnownSets (tasksIn t) (now (list .entry)) count (now (lateness .entry)))
+        (λ t. ChosenAs t mode s p (now (list .entry)) count (now (list .exit)) r × KnownSets (tasksIn t) (now (list .exit)) (r .count) (now (lateness .exit))) ⌝ }
 {
     let site = Site {
         on: s.on[p],
@@ -141,10 +140,10 @@ pub fn candidates_of<'a>(
     count: usize,
     lateness: &mut LateCache,
 ) -> Candidates
-    requires { ⌜ Given sizes (now timing) (now rows) (now messages) (λ t. Opens t s (now list) count) (λ t. LateCache (tasksIn t) (now lateness)) ⌝ }
+    requires { ⌜ Given sizes (now timing) (now rows) (now messages) (λ t. Opens t s (now list) count) (λ t. KnownSets (tasksIn t) (now list) count (now lateness)) ⌝ }
     ensures { λ r. ⌜ Gives sizes (now (timing .entry)) (now (rows .entry)) (now (messages .entry))
-        (λ t. Opens t s (now (list .entry)) count) (λ t. LateCache (tasksIn t) (now (lateness .entry)))
-        (λ t. CandidatesAs t mode s (now (list .entry)) count (now (list .exit)) r × LateCache (tasksIn t) (now (lateness .exit))) ⌝ }
+        (λ t. Opens t s (now (list .entry)) count) (λ t. KnownSets (tasksIn t) (now (list .entry)) count (now (lateness .entry)))
+        (λ t. CandidatesAs t mode s (now (list .entry)) count (now (list .exit)) r × KnownSets (tasksIn t) (now (list .exit)) (r .count) (now (lateness .exit))) ⌝ }
 {
     let mut sets = [0u32; 8];
     let mut listed = count;
@@ -182,9 +181,9 @@ fn passed_over<'a>(
     count: usize,
     lateness: &mut LateCache,
 ) -> bool
-    requires { ⌜ InLimits tasks (now timing) set × (6 * count ≤ length (now list)) × LateCache (tasksOf tasks (now timing)) (now lateness) ⌝ }
+    requires { ⌜ InLimits tasks (now timing) set × (6 * count ≤ length (now list)) × KnownSets (tasksOf tasks (now timing)) (now list) count (now lateness) ⌝ }
     ensures { λ r. ⌜ (r ≡ passedOver (tasksOf tasks (now (timing .entry))) full (now (list .entry)) count set)
-        × LateCache (tasksOf tasks (now (timing .entry))) (now (lateness .exit)) ⌝ }
+        × KnownSets (tasksOf tasks (now (timing .entry))) (now (list .entry)) count (now (lateness .exit)) ⌝ }
 {
     if full {
         return nogoods::covered(list, count, set, lateness);
@@ -207,9 +206,9 @@ fn may_stand<'a>(
     lateness: &mut LateCache,
 ) -> bool
     requires { ⌜ ((t : Table) × (s : State) × Lends t sizes (now timing) (now rows) (now messages) × Fits t s × (site ≡ siteOf s p))
-        × T (has (site .left) k) × (p < sizes .processors) × (6 * count ≤ length (now list)) × LateCache (tasksOf (sizes .tasks) (now timing)) (now lateness) ⌝ }
+        × T (has (site .left) k) × (p < sizes .processors) × (6 * count ≤ length (now list)) × KnownSets (tasksOf (sizes .tasks) (now timing)) (now list) count (now lateness) ⌝ }
     ensures { λ r. ⌜ (r ≡ mayStand (now (timing .entry)) (now (rows .entry)) (now (messages .entry)) sizes full (now (list .entry)) count site p k)
-        × LateCache (tasksOf (sizes .tasks) (now (timing .entry))) (now (lateness .exit)) ⌝ }
+        × KnownSets (tasksOf (sizes .tasks) (now (timing .entry))) (now (list .entry)) count (now (lateness .exit)) ⌝ }
 {
     if !partial::allows(rows, messages, sizes, site, k, p) {
         return false;
@@ -233,9 +232,9 @@ fn narrow<'a>(
     lateness: &mut LateCache,
 ) -> u32
     requires { ⌜ ((t : Table) × (s : State) × Lends t sizes (now timing) (now rows) (now messages) × Fits t s × (site ≡ siteOf s p))
-        × Subset set (site .left) × (p < sizes .processors) × (6 * count ≤ length (now list)) × LateCache (tasksOf (sizes .tasks) (now timing)) (now lateness) ⌝ }
+        × Subset set (site .left) × (p < sizes .processors) × (6 * count ≤ length (now list)) × KnownSets (tasksOf (sizes .tasks) (now timing)) (now list) count (now lateness) ⌝ }
     ensures { λ r. ⌜ (r ≡ narrowOf (now (timing .entry)) (now (rows .entry)) (now (messages .entry)) sizes full (now (list .entry)) count site p set)
-        × LateCache (tasksOf (sizes .tasks) (now (timing .entry))) (now (lateness .exit)) ⌝ }
+        × KnownSets (tasksOf (sizes .tasks) (now (timing .entry))) (now (list .entry)) count (now (lateness .exit)) ⌝ }
 {
     let mut kept = set;
     let mut rest = set;
@@ -276,9 +275,9 @@ fn narrow_all<'a>(
     lateness: &mut LateCache,
 ) -> [u32; 8]
     requires { ⌜ ((t : Table) × Lends t sizes (now timing) (now rows) (now messages) × Fits t s)
-        × (6 * count ≤ length (now list)) × LateCache (tasksOf (sizes .tasks) (now timing)) (now lateness) ⌝ }
+        × (6 * count ≤ length (now list)) × KnownSets (tasksOf (sizes .tasks) (now timing)) (now list) count (now lateness) ⌝ }
     ensures { λ r. ⌜ (r ≡ mayOf (now (timing .entry)) (now (rows .entry)) (now (messages .entry)) sizes full (now (list .entry)) count s sets anew)
-        × LateCache (tasksOf (sizes .tasks) (now (timing .entry))) (now (lateness .exit)) ⌝ }
+        × KnownSets (tasksOf (sizes .tasks) (now (timing .entry))) (now (list .entry)) count (now (lateness .exit)) ⌝ }
 {
     let mut may = [0u32; 8];
     let mut p: usize = 0;
@@ -320,7 +319,7 @@ fn is_full(mode: Mode, list: &[u8], count: usize) -> bool
     if !mode.listing {
         return false;
     }
-    list.len() < 6 * count + 9
+    nogoods::is_full(list, count)
 }
 
 // The state that a search begins with: the open tasks that may stand on each processor are worked out.
@@ -335,10 +334,10 @@ pub fn prepare<'a>(
     count: usize,
     lateness: &mut LateCache,
 ) -> State
-    requires { ⌜ Given sizes (now timing) (now rows) (now messages) (λ t. Fits t s) (λ t. LateCache (tasksIn t) (now lateness)) × (6 * count ≤ length (now list)) ⌝ }
+    requires { ⌜ Given sizes (now timing) (now rows) (now messages) (λ t. Fits t s) (λ t. KnownSets (tasksIn t) (now list) count (now lateness)) × (6 * count ≤ length (now list)) ⌝ }
     ensures { λ r. ⌜ (r ≡ withMay s (preparedOf (now (timing .entry)) (now (rows .entry)) (now (messages .entry)) sizes s mode (now (list .entry)) count))
         × Gives sizes (now (timing .entry)) (now (rows .entry)) (now (messages .entry))
-        (λ t. Fits t s) (λ t. LateCache (tasksIn t) (now (lateness .entry))) (λ t. LateCache (tasksIn t) (now (lateness .exit))) ⌝ }
+        (λ t. Fits t s) (λ t. KnownSets (tasksIn t) (now (list .entry)) count (now (lateness .entry))) (λ t. KnownSets (tasksIn t) (now (list .entry)) count (now (lateness .exit))) ⌝ }
 {
     let full = is_full(mode, list, count);
     let all = mask::all_below(sizes.processors);
@@ -387,11 +386,11 @@ pub fn refresh<'a>(
     count: usize,
     lateness: &mut LateCache,
 ) -> [u32; 8]
-    requires { ⌜ Given sizes (now timing) (now rows) (now messages) (λ t. Fits t s) (λ t. LateCache (tasksIn t) (now lateness)) × (6 * count ≤ length (now list))
+    requires { ⌜ Given sizes (now timing) (now rows) (now messages) (λ t. Fits t s) (λ t. KnownSets (tasksIn t) (now list) count (now lateness)) × (6 * count ≤ length (now list))
         × (k < 24) × (p < 8) ⌝ }
     ensures { λ r. ⌜ (r ≡ refreshedOf (now (timing .entry)) (now (rows .entry)) (now (messages .entry)) sizes s k p mode (now (list .entry)) count)
         × Gives sizes (now (timing .entry)) (now (rows .entry)) (now (messages .entry))
-        (λ t. Fits t s) (λ t. LateCache (tasksIn t) (now (lateness .entry))) (λ t. LateCache (tasksIn t) (now (lateness .exit))) ⌝ }
+        (λ t. Fits t s) (λ t. KnownSets (tasksIn t) (now (list .entry)) count (now (lateness .entry))) (λ t. KnownSets (tasksIn t) (now (list .entry)) count (now (lateness .exit))) ⌝ }
 {
     let all = mask::all_below(sizes.processors);
     if is_full(mode, list, count) {

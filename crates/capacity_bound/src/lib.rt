@@ -7,13 +7,13 @@ ghost use mathlib.Core.Bool.{false};
 ghost use Rattle.finite.specs.Finite.{sumTo};
 ghost use Rattle.mask.specs.Mask.{below};
 ghost use Rattle.timing.specs.Timing.{tasksIn};
-ghost use Rattle.late_cache.specs.LateCache.{LateCache};
 ghost use Rattle.region.specs.Given.{Given, Gives};
-ghost use Rattle.bound_cache.specs.BoundCache.{Learnt};
+ghost use Rattle.bound_cache.specs.BoundCache.{LearntOf};
 ghost use Rattle.capacity_bound.specs.Bound.{BoundedAs};
 ghost use Rattle.capacity_bound.specs.CapacityBound.{heaviest, packingFuel, callsOf, Weights, TopAs, Covers, Weighable, Topped, TightAs};
 use bound_cache::BoundCache;
 use knapsack::Pack;
+ghost use Rattle.nogoods.specs.Nogoods.{KnownSets};
 use late_cache::LateCache;
 use nogoods::Mode;
 use numbers::lower;
@@ -168,11 +168,11 @@ fn pack<'a>(
     lateness: &mut LateCache,
 ) -> Tightened
     requires { ⌜ Given sizes (now timing) (now rows) (now messages)
-        (λ t. Topped t mode s (now weights) sets tops (now list) count) (λ t. LateCache (tasksIn t) (now lateness))
+        (λ t. Topped t mode s (now weights) sets tops (now list) count) (λ t. KnownSets (tasksIn t) (now list) count (now lateness))
         × (p < sizes .processors) ⌝ }
     ensures { λ r. ⌜ Gives sizes (now (timing .entry)) (now (rows .entry)) (now (messages .entry))
-        (λ t. Topped t mode s (now (weights .entry)) sets tops (now (list .entry)) count) (λ t. LateCache (tasksIn t) (now (lateness .entry)))
-        (λ t. TightAs t mode s (now (weights .entry)) sets tops p (now (list .entry)) count (now (list .exit)) r × LateCache (tasksIn t) (now (lateness .exit)))
+        (λ t. Topped t mode s (now (weights .entry)) sets tops (now (list .entry)) count) (λ t. KnownSets (tasksIn t) (now (list .entry)) count (now (lateness .entry)))
+        (λ t. TightAs t mode s (now (weights .entry)) sets tops p (now (list .entry)) count (now (list .exit)) r × KnownSets (tasksIn t) (now (list .exit)) (r .count) (now (lateness .exit)))
         × (r .calls ≤ packingFuel) ⌝ }
 {
     let most = tops[p];
@@ -234,11 +234,11 @@ fn pack_once<'a>(
     bounds: &mut BoundCache,
 ) -> Tightened
     requires { ⌜ Given sizes (now timing) (now rows) (now messages)
-        (λ t. Topped t mode s (now weights) sets tops (now list) count) (λ t. Learnt t (now rows) (now lateness) (now bounds))
+        (λ t. Topped t mode s (now weights) sets tops (now list) count) (λ t. LearntOf t (now list) count (now rows) (now lateness) (now bounds))
         × Weights (now rows) row (now weights) × (p < sizes .processors) × (mode .listing ≡ false) × (row < 3) ⌝ }
     ensures { λ r. ⌜ Gives sizes (now (timing .entry)) (now (rows .entry)) (now (messages .entry))
-        (λ t. Topped t mode s (now (weights .entry)) sets tops (now (list .entry)) count) (λ t. Learnt t (now (rows .entry)) (now (lateness .entry)) (now (bounds .entry)))
-        (λ t. TightAs t mode s (now (weights .entry)) sets tops p (now (list .entry)) count (now (list .exit)) r × Learnt t (now (rows .entry)) (now (lateness .exit)) (now (bounds .exit)))
+        (λ t. Topped t mode s (now (weights .entry)) sets tops (now (list .entry)) count) (λ t. LearntOf t (now (list .entry)) count (now (rows .entry)) (now (lateness .entry)) (now (bounds .entry)))
+        (λ t. TightAs t mode s (now (weights .entry)) sets tops p (now (list .entry)) count (now (list .exit)) r × LearntOf t (now (list .exit)) (r .count) (now (rows .entry)) (now (lateness .exit)) (now (bounds .exit)))
         × (r .calls ≤ packingFuel) ⌝ }
 {
     let on = s.on[p];
@@ -296,11 +296,11 @@ fn tighten<'a>(
     bounds: &mut BoundCache,
 ) -> Tightened
     requires { ⌜ Given sizes (now timing) (now rows) (now messages)
-        (λ t. Topped t mode s (now weights) sets tops (now list) count) (λ t. Learnt t (now rows) (now lateness) (now bounds))
+        (λ t. Topped t mode s (now weights) sets tops (now list) count) (λ t. LearntOf t (now list) count (now rows) (now lateness) (now bounds))
         × Weights (now rows) row (now weights) × (p < sizes .processors) ⌝ }
     ensures { λ r. ⌜ Gives sizes (now (timing .entry)) (now (rows .entry)) (now (messages .entry))
-        (λ t. Topped t mode s (now (weights .entry)) sets tops (now (list .entry)) count) (λ t. Learnt t (now (rows .entry)) (now (lateness .entry)) (now (bounds .entry)))
-        (λ t. TightAs t mode s (now (weights .entry)) sets tops p (now (list .entry)) count (now (list .exit)) r × Learnt t (now (rows .entry)) (now (lateness .exit)) (now (bounds .exit)))
+        (λ t. Topped t mode s (now (weights .entry)) sets tops (now (list .entry)) count) (λ t. LearntOf t (now (list .entry)) count (now (rows .entry)) (now (lateness .entry)) (now (bounds .entry)))
+        (λ t. TightAs t mode s (now (weights .entry)) sets tops p (now (list .entry)) count (now (list .exit)) r × LearntOf t (now (list .exit)) (r .count) (now (rows .entry)) (now (lateness .exit)) (now (bounds .exit)))
         × (r .calls ≤ packingFuel) ⌝ }
 {
     let r = like(s, sets, p);
@@ -370,11 +370,11 @@ pub fn weigh<'a>(
     bounds: &mut BoundCache,
 ) -> Weighed
     requires { ⌜ Given sizes (now timing) (now rows) (now messages)
-        (λ t. Weighable t mode s sets (now list) count) (λ t. Learnt t (now rows) (now lateness) (now bounds))
+        (λ t. Weighable t mode s sets (now list) count) (λ t. LearntOf t (now list) count (now rows) (now lateness) (now bounds))
         × Weights (now rows) row (now weights) ⌝ }
     ensures { λ r. ⌜ Gives sizes (now (timing .entry)) (now (rows .entry)) (now (messages .entry))
-        (λ t. Weighable t mode s sets (now (list .entry)) count) (λ t. Learnt t (now (rows .entry)) (now (lateness .entry)) (now (bounds .entry)))
-        (λ t. BoundedAs t mode s (now (list .entry)) count (now (list .exit)) (r .bounded) × Learnt t (now (rows .entry)) (now (lateness .exit)) (now (bounds .exit)))
+        (λ t. Weighable t mode s sets (now (list .entry)) count) (λ t. LearntOf t (now (list .entry)) count (now (rows .entry)) (now (lateness .entry)) (now (bounds .entry)))
+        (λ t. BoundedAs t mode s (now (list .entry)) count (now (list .exit)) (r .bounded) × LearntOf t (now (list .exit)) (r .bounded .count) (now (rows .entry)) (now (lateness .exit)) (now (bounds .exit)))
         × (r .gap ≤ 8 * heaviest) × (r .calls ≤ 8 * packingFuel) ⌝ }
 {
     let m = sizes.processors;

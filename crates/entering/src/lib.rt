@@ -3,10 +3,10 @@ ghost use Prim.Native.Nat.{_<_};
 ghost use lib.Dec.{T};
 ghost use Rattle.mask.specs.Mask.{has};
 ghost use Rattle.timing.specs.Timing.{tasksIn};
-ghost use Rattle.late_cache.specs.LateCache.{LateCache};
 ghost use Rattle.region.specs.Begins.{Stands, Begins};
 ghost use Rattle.region.specs.Given.{Given, Gives};
 ghost use Rattle.entering.specs.Entering.{AdmittedAs, EnteredAs};
+ghost use Rattle.nogoods.specs.Nogoods.{KnownSets};
 use late_cache::LateCache;
 use nogoods::Mode;
 use partial::Sizes;
@@ -36,11 +36,11 @@ pub fn admit<'a>(
     count: usize,
     lateness: &mut LateCache,
 ) -> Entered
-    requires { ⌜ Given sizes (now timing) (now rows) (now messages) (λ t. Stands t mode s (now list) count) (λ t. LateCache (tasksIn t) (now lateness))
+    requires { ⌜ Given sizes (now timing) (now rows) (now messages) (λ t. Stands t mode s (now list) count) (λ t. KnownSets (tasksIn t) (now list) count (now lateness))
         × T (has (s .left) k) × (p < sizes .processors) ⌝ }
     ensures { λ r. ⌜ Gives sizes (now (timing .entry)) (now (rows .entry)) (now (messages .entry))
-        (λ t. Stands t mode s (now (list .entry)) count) (λ t. LateCache (tasksIn t) (now (lateness .entry)))
-        (λ t. AdmittedAs t mode s k p (now (list .entry)) count (now (list .exit)) r × LateCache (tasksIn t) (now (lateness .exit))) ⌝ }
+        (λ t. Stands t mode s (now (list .entry)) count) (λ t. KnownSets (tasksIn t) (now (list .entry)) count (now (lateness .entry)))
+        (λ t. AdmittedAs t mode s k p (now (list .entry)) count (now (list .exit)) r × KnownSets (tasksIn t) (now (list .exit)) (r .count) (now (lateness .exit))) ⌝ }
 {
     let step = partial::step(rows, messages, sizes, s, k, p);
     let next = step.next;
@@ -73,11 +73,11 @@ pub fn enter<'a>(
     count: usize,
     lateness: &mut LateCache,
 ) -> Entered
-    requires { ⌜ Given sizes (now timing) (now rows) (now messages) (λ t. Begins t mode s (now list) count) (λ t. LateCache (tasksIn t) (now lateness))
+    requires { ⌜ Given sizes (now timing) (now rows) (now messages) (λ t. Begins t mode s (now list) count) (λ t. KnownSets (tasksIn t) (now list) count (now lateness))
         × T (has (s .left) k) × (p < sizes .processors) ⌝ }
     ensures { λ r. ⌜ Gives sizes (now (timing .entry)) (now (rows .entry)) (now (messages .entry))
-        (λ t. Begins t mode s (now (list .entry)) count) (λ t. LateCache (tasksIn t) (now (lateness .entry)))
-        (λ t. EnteredAs t mode s k p (now (list .entry)) count (now (list .exit)) r × LateCache (tasksIn t) (now (lateness .exit))) ⌝ }
+        (λ t. Begins t mode s (now (list .entry)) count) (λ t. KnownSets (tasksIn t) (now (list .entry)) count (now (lateness .entry)))
+        (λ t. EnteredAs t mode s k p (now (list .entry)) count (now (list .exit)) r × KnownSets (tasksIn t) (now (list .exit)) (r .count) (now (lateness .exit))) ⌝ }
 {
     let admitted = admit(
         timing,

@@ -54,6 +54,7 @@ fn decide_on<'a>(
         (λ t. Ready t s) (λ t. Learnt t (now (rows .entry)) (now (lateness .entry)) (now (bounds .entry)))
         (λ t. DecidedAs (r .found) t (andTask (standing (s .on)) k p) (r .on) × Learnt t (now (rows .entry)) (now (lateness .exit)) (now (bounds .exit))) ⌝ }
 {
+    nogoods::forget(lateness);
     // Deciding lists nothing: it is lent a list without room.
     let mut no_list = [0u8; 3];
     let mode = Mode {
@@ -117,6 +118,7 @@ fn pass_over<'a>(
         listing: true,
         limited: false,
     };
+    nogoods::forget(lateness);
     let entered = entering::admit(
         timing,
         rows,

@@ -4,8 +4,8 @@ ghost use Prim.Native.Nat.{_+_, _<_};
 ghost use lib.ListN.{getD};
 ghost use Rattle.schedule.specs.Arrays.{tasksOf};
 ghost use Rattle.rows.specs.Rows.{memoryRow, loadRow, exclusionRow};
-ghost use Rattle.late_cache.specs.LateCache.{LateCache};
 ghost use Rattle.knapsack.specs.Knapsack.{weightOf, hasRoom, Packs, Begun, PackedAs, TakenAs};
+ghost use Rattle.nogoods.specs.Nogoods.{KnownSets};
 use late_cache::LateCache;
 use nogoods::Mode;
 use numbers::wide;
@@ -70,9 +70,9 @@ fn take<'a>(
     lateness: &mut LateCache,
 ) -> Packed
     requires { ⌜ Packs n (now timing) pack (now list) count
-        × (k < n) × (pack .reach ≡ pack .weight + getD (now weights) k 0 + weightOf n (now weights) (pack .candidates)) × LateCache (tasksOf n (now timing)) (now lateness) ⌝ }
+        × (k < n) × (pack .reach ≡ pack .weight + getD (now weights) k 0 + weightOf n (now weights) (pack .candidates)) × KnownSets (tasksOf n (now timing)) (now list) count (now lateness) ⌝ }
     ensures { λ r. ⌜ TakenAs n (tasksOf n (now (timing .entry))) mode (memoryRow (now (rows .entry))) (exclusionRow (now (rows .entry)))
-        (loadRow (now (rows .entry))) (now (weights .entry)) pack k (now (list .entry)) count (now (list .exit)) r × LateCache (tasksOf n (now (timing .entry))) (now (lateness .exit)) ⌝ }
+        (loadRow (now (rows .entry))) (now (weights .entry)) pack k (now (list .entry)) count (now (list .exit)) r × KnownSets (tasksOf n (now (timing .entry))) (now (list .exit)) (r .count) (now (lateness .exit)) ⌝ }
 {
     if !room(rows, pack.on, pack.space, pack.spare, k) {
         return Packed {
@@ -143,9 +143,9 @@ pub fn most<'a>(
     lateness: &mut LateCache,
 ) -> Packed
     requires { ⌜ Packs n (now timing) pack (now list) count
-        × (pack .reach ≡ pack .weight + weightOf n (now weights) (pack .candidates)) × LateCache (tasksOf n (now timing)) (now lateness) ⌝ }
+        × (pack .reach ≡ pack .weight + weightOf n (now weights) (pack .candidates)) × KnownSets (tasksOf n (now timing)) (now list) count (now lateness) ⌝ }
     ensures { λ r. ⌜ PackedAs n (tasksOf n (now (timing .entry))) mode (memoryRow (now (rows .entry))) (exclusionRow (now (rows .entry)))
-        (loadRow (now (rows .entry))) (now (weights .entry)) pack (now (list .entry)) count (now (list .exit)) r × LateCache (tasksOf n (now (timing .entry))) (now (lateness .exit)) ⌝ }
+        (loadRow (now (rows .entry))) (now (weights .entry)) pack (now (list .entry)) count (now (list .exit)) r × KnownSets (tasksOf n (now (timing .entry))) (now (list .exit)) (r .count) (now (lateness .exit)) ⌝ }
 {
     let mut left = begin(pack);
     let mut listed = count;

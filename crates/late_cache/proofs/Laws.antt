@@ -73,9 +73,9 @@ module _ {s : Tasks} {lateness : List ℕ} (k : LateCache s lateness) where
       go i l (no e) b = subst (Right s) (sym (getD-set-other lateness j i (2 * x + boolByte late) 0 e)) (k .says i l)
       go i l (yes e) (no b) = rw (set-out lateness j (2 * x + boolByte late) (omega arith)) (k .says i l)
 
-  -- and behind the first 8,192 words anything
-  pub late-cache-hint : {j : ℕ} (v : ℕ) → 65536 ≤ j → LateCache s (set lateness j v)
-  late-cache-hint {j} v h = record {
+  -- and behind the words for sets anything
+  pub late-cache-behind : {j : ℕ} (v : ℕ) → 65536 ≤ j → LateCache s (set lateness j v)
+  late-cache-behind {j} v h = record {
     says = λ i l. subst (Right s) (sym (getD-set-other lateness j i v 0 (λ e. omega arith))) (k .says i l);
   }
 

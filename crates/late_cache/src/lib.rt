@@ -6,8 +6,8 @@ ghost use Rattle.schedule.specs.Arrays.{tasksOf, InLimits, Says};
 ghost use Rattle.late_cache.specs.LateCache.{LateCache, placeOf, withVerdict};
 use schedule::Timing;
 
-// 65,536 words for sets, and 8,192 for hints, of which nothing is claimed.
-pub type LateCache = [u32; 73728];
+// 65,536 words for sets. The 16,385 words behind them are for the look at the listed conflicts; nothing is claimed of them here.
+pub type LateCache = [u32; 81921];
 
 // Where a set stands in a table of 65,536 words. Any place would do: no answer rests on it.
 pub fn place_of(set: u32) -> usize

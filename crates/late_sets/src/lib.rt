@@ -7,7 +7,7 @@ ghost use Rattle.finite.specs.Finite.{only};
 ghost use Rattle.mask.specs.Mask.{has};
 ghost use Rattle.timing.specs.Timing.{tasksIn};
 ghost use Rattle.late_cache.specs.LateCache.{LateCache};
-ghost use Rattle.nogoods.specs.Nogoods.{Nogoods};
+ghost use Rattle.nogoods.specs.Nogoods.{Nogoods, KnownSets, lists};
 ghost use Rattle.partial.specs.Partial.{Fits};
 ghost use Rattle.region.specs.Given.{Given, Gives};
 ghost use Rattle.late_sets.specs.LateSets.{canStand, takes, processorsFor, withNext, Small, Continues, Possible, InTime, BeginsWith, CoversAs};
@@ -128,12 +128,12 @@ fn cover_with_next<'a>(
     lateness: &mut LateCache,
 ) -> Covering
     requires { ⌜ ((links : List (List ℕ)) × Given sizes (now timing) (now rows) links
-        (λ t. Continues t subset (now list) count) (λ t. LateCache (tasksIn t) (now lateness)))
+        (λ t. Continues t subset (now list) count) (λ t. KnownSets (tasksIn t) (now list) count (now lateness)))
         × (subset .next < sizes .tasks) ⌝ }
     ensures { λ r. ⌜ ((links : List (List ℕ)) → Gives sizes (now (timing .entry)) (now (rows .entry)) links
-        (λ t. Continues t subset (now (list .entry)) count) (λ t. LateCache (tasksIn t) (now (lateness .entry)))
+        (λ t. Continues t subset (now (list .entry)) count) (λ t. KnownSets (tasksIn t) (now (list .entry)) count (now (lateness .entry)))
         (λ t. (Fits t s → Possible t (now (rows .entry)) s subset → CoversAs t s (λ x. BeginsWith subset x × T (x (subset .next))) (now (list .entry)) count (now (list .exit)) r)
-        × Nogoods (tasksIn t) (now (list .exit)) (r .count) × LateCache (tasksIn t) (now (lateness .exit)))) ⌝ }
+        × Nogoods (tasksIn t) (now (list .exit)) (r .count) × KnownSets (tasksIn t) (now (list .exit)) (r .count) (now (lateness .exit)))) ⌝ }
 {
     let wider = with_next(rows, sizes.processors, s, subset);
     let set = wider.set;
@@ -172,11 +172,11 @@ fn cover_supersets<'a>(
     lateness: &mut LateCache,
 ) -> Covering
     requires { ⌜ ((links : List (List ℕ)) × Given sizes (now timing) (now rows) links
-        (λ t. Continues t subset (now list) count) (λ t. LateCache (tasksIn t) (now lateness))) ⌝ }
+        (λ t. Continues t subset (now list) count) (λ t. KnownSets (tasksIn t) (now list) count (now lateness))) ⌝ }
     ensures { λ r. ⌜ ((links : List (List ℕ)) → Gives sizes (now (timing .entry)) (now (rows .entry)) links
-        (λ t. Continues t subset (now (list .entry)) count) (λ t. LateCache (tasksIn t) (now (lateness .entry)))
+        (λ t. Continues t subset (now (list .entry)) count) (λ t. KnownSets (tasksIn t) (now (list .entry)) count (now (lateness .entry)))
         (λ t. (Fits t s → Possible t (now (rows .entry)) s subset → InTime t subset → CoversAs t s (BeginsWith subset) (now (list .entry)) count (now (list .exit)) r)
-        × Nogoods (tasksIn t) (now (list .exit)) (r .count) × LateCache (tasksIn t) (now (lateness .exit)))) ⌝ }
+        × Nogoods (tasksIn t) (now (list .exit)) (r .count) × KnownSets (tasksIn t) (now (list .exit)) (r .count) (now (lateness .exit)))) ⌝ }
 {
     if subset.next == sizes.tasks {
         return Covering {
@@ -238,6 +238,7 @@ pub fn cover_late_sets<'a>(
         (λ t. Nogoods (tasksIn t) (now (list .entry)) count) (λ t. LateCache (tasksIn t) (now (lateness .entry)))
         (λ t. (Fits t s → CoversAs t s (λ x. Unit {0}) (now (list .entry)) count (now (list .exit)) r) × LateCache (tasksIn t) (now (lateness .exit)))) ⌝ }
 {
+    nogoods::forget(lateness);
     let nothing = Subset {
         set: 0,
         next: 0,

@@ -12,12 +12,12 @@ use lib.ListN.{length, take, drop, take-append-drop}
 use lib.Seq.{length-take-le, drop-at, drop-drop}
 use Rattle.wire.specs.Wire.{recordBytes, laid}
 use Rattle.wire.proofs.Laws.{number-at, number-append, number-behind, record-length}
-use Rattle.mask.specs.Mask.{has}
+use Rattle.mask.specs.Mask.{has, Subset}
 use Rattle.schedule.specs.Periodic.{Tasks}
 use Rattle.conflict.specs.Conflict.{Minimal, MinimalWithin}
 use Rattle.answer.specs.Answer.{conflictBytes, records, maskAt, Listing}
 use Rattle.answer.proofs.Laws.{listing-append, listing-length}
-use Rattle.nogoods.specs.Nogoods.{masksIn, Covered, Nogoods, Grows}
+use Rattle.nogoods.specs.Nogoods.{masksIn, Covered, Nogoods, Grows, Extended}
 use Rattle.nogoods.proofs.Masks.{masks-long, masks-ext, listing-of}
 
 pub nogoods-start : {s : Tasks} {list : List ℕ} → 3 ≤ length list → Nogoods s list 0
@@ -77,7 +77,7 @@ module _ {s : Tasks} {count m : ℕ} {list new : List ℕ} (w : Nogoods s list c
   listing : Listing list (masksIn new (count + 1)) new
   listing = rw masks-appended at (listing-append (listing-of w) (sym (masks-long list count)) (omega arith) fits e)
 
-  pub grows-append : {P : ℕ → Type 0} → P m → Grows P list count new (count + 1)
+  grows-append : {P : ℕ → Type 0} → P m → Grows P list count new (count + 1)
   grows-append {P} p = record {
     more = omega arith;
     stay = mask-stays;
@@ -87,7 +87,7 @@ module _ {s : Tasks} {count m : ℕ} {list new : List ℕ} (w : Nogoods s list c
   }
 
   -- m lies within a set that no conflict of the list lies within
-  pub nogoods-append : {set : ℕ} → MinimalWithin s set m → (Covered list count (has set) → ⊥) → Nogoods s new (count + 1)
+  nogoods-append : {set : ℕ} → MinimalWithin s set m → (Covered list count (has set) → ⊥) → Nogoods s new (count + 1)
   nogoods-append {set} c uncovered = record {
     room = omega (arith, listing-length listing);
     written = listing .holds ∙ ap (λ (rest : List ℕ). records (masksIn new (count + 1)) ++ rest) (rw (masks-long new (count + 1)) (sym rest-stays));
@@ -110,6 +110,9 @@ module _ {s : Tasks} {count m : ℕ} {list new : List ℕ} (w : Nogoods s list c
       different i j a b q (yes f) (no g) = absurd (other i f (q ∙ last j b g))
       different i j a b q (no f) (yes g) = absurd (other j g (sym q ∙ last i a f))
       different i j a b q (no f) (no g) = omega arith
+
+  pub extended-append : {set : ℕ} → MinimalWithin s set m → (Covered list count (has set) → ⊥) → Extended (λ c. Subset c set) s list count new (count + 1)
+  extended-append c uncovered = record { nogoods = nogoods-append c uncovered; grows = grows-append (c .inside) }
 
   pub covered-append : {x : ℕ → Bool} → ((k : ℕ) → T (has m k) → T (x k)) → Covered new (count + 1) x
   covered-append f = record { number = count; listed = omega arith; inside = λ k t. f k (rw mask-appended at t) }

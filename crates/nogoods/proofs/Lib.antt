@@ -1,6 +1,6 @@
 pub mod Masks
 pub mod Growth
-pub mod Hints
+pub mod Covers
 pub mod Testing
 pub mod Append
 pub mod Verdicts

@@ -10,7 +10,7 @@ use Rattle.schedule.specs.Periodic.{Tasks, LateSet}
 use Rattle.schedule.specs.Response.{lateTest}
 use Rattle.late_cache.specs.LateCache.{withVerdict}
 use Rattle.nogoods.specs.declared.Mode.{Mode}
-use Rattle.nogoods.specs.Nogoods.{Nogoods, full, Clear, Verdict, coveredBy, hinted, testBy, testOf, cacheAfter, Noted}
+use Rattle.nogoods.specs.Nogoods.{Nogoods, full, Clear, Verdict, coveredBy, lookedFor, testBy, testOf, cacheAfter, Noted}
 use Rattle.nogoods.proofs.Growth.{extended-refl}
 
 module _ {s : Tasks} {count : ℕ} {list : List ℕ} (w : Nogoods s list count) (mode : Mode) (x : ℕ) where
@@ -24,7 +24,7 @@ module _ {s : Tasks} {count : ℕ} {list : List ℕ} (w : Nogoods s list count) 
     unfolding cacheAfter
     cache-asked lateness e a = rw (← is-late, e) a
 
-    pub cache-looked : (lateness : List ℕ) {asked after : List ℕ} → (late && mode .listing) ≡ true → asked ≡ withVerdict lateness x late → after ≡ hinted asked list count x
+    pub cache-looked : (lateness : List ℕ) {asked after : List ℕ} → (late && mode .listing) ≡ true → asked ≡ withVerdict lateness x late → after ≡ lookedFor asked list count x
         → after ≡ cacheAfter s mode x list count lateness
     unfolding cacheAfter
     cache-looked lateness e a b = rw (← is-late, e, ← a) b

@@ -4,6 +4,7 @@ use mathlib.Core.Bool.{Bool, true, false, _&&_, cond}
 use mathlib.Core.Logic.{_⊎_}
 use mathlib.Core.List.{List, [], _∷_, _++_}
 use Prim.Native.Nat.{ℕ, zero, suc, _+_, _*_, _/_, _%_, _≤_, _<_}
+use mir.Val.{boolByte}
 use lib.Dec.{T, eqb, ltb}
 use lib.ListN.{length, getD, set, drop}
 use Rattle.finite.specs.Finite.{someBelow, firstBelow}
@@ -13,7 +14,7 @@ use Rattle.schedule.specs.Response.{lateTest}
 use Rattle.conflict.specs.Conflict.{Minimal}
 use Rattle.wire.specs.Wire.{laid}
 use Rattle.answer.specs.Answer.{conflictBytes, records, maskAt}
-use Rattle.late_cache.specs.LateCache.{placeOf, withVerdict}
+use Rattle.late_cache.specs.LateCache.{LateCache, placeOf, withVerdict}
 use Rattle.nogoods.specs.declared.Mode.{Mode}
 use Rattle.nogoods.specs.declared.Tested.{Tested}
 
@@ -78,12 +79,51 @@ Verdict false s listing list count x = Clear s listing list count x
 abbrev pub coveredBy : List ℕ → ℕ → ℕ → Bool
 coveredBy list count x = someBelow count (λ j. within (maskAt list j) x)
 
--- the cache of tested sets after a look for a listed conflict within the set x. Behind the sets it has a hint for each: the number of a conflict, to 24 bits.
--- It is as it was where the hint names a conflict within x, else the hint is the number of the first one, and the count where there is none.
+-- ---- the words behind the cached sets: with a list that can still grow they are hints, with a full one they are a table of covered sets
+
+-- the word for a set
+abbrev pub wordOf : ℕ → ℕ
+wordOf x = 65536 + placeOf x / 4
+
+-- the words after a look for a listed conflict within the set x, with a list that can still grow. A hint is the number of a conflict, to 24 bits.
+-- It is as it was where it names a conflict within x, else it is the number of the first one, and the count where there is none.
 unfoldable pub hinted : List ℕ → List ℕ → ℕ → ℕ → List ℕ
 hinted lateness list count x =
-    let hint = getD lateness (65536 + placeOf x / 8) 0 % 16777216 in
-    cond (ltb hint count && within (maskAt list hint) x) lateness (set lateness (65536 + placeOf x / 8) (firstBelow count (λ j. within (maskAt list j) x) % 16777216))
+    let hint = getD lateness (wordOf x) 0 % 16777216 in
+    cond (ltb hint count && within (maskAt list hint) x) lateness (set lateness (wordOf x) (firstBelow count (λ j. within (maskAt list j) x) % 16777216))
+
+-- what a word of the table says: it is twice a set, and one more where a listed conflict lies within the set; 0 says nothing
+abbrev pub TellsCovered : List ℕ → ℕ → ℕ → Type 0
+TellsCovered list count word = 0 < word → coveredBy list count (word / 2) ≡ eqb (word % 2) 1
+
+-- the last word is 1 where there is a table: only with a full list, which no longer changes, so that each word is true by itself
+pub record CoverCache (list : List ℕ) (count : ℕ) (lateness : List ℕ) : Type 0 where
+  pub full-list : getD lateness 81920 0 ≡ 1 → T (full list count)
+  pub tells : getD lateness 81920 0 ≡ 1 → (j : ℕ) → j < 16384 → TellsCovered list count (getD lateness (65536 + j) 0)
+
+-- the first n of these words are 0
+unfoldable pub cleared : List ℕ → ℕ → List ℕ
+cleared lateness zero = lateness
+cleared lateness (suc n) = set (cleared lateness n) (65536 + n) 0
+
+-- there is a table: the one that was there, or an empty one
+unfoldable pub opened : List ℕ → List ℕ
+opened lateness = cond (eqb (getD lateness 81920 0) 1) lateness (set (cleared lateness 16384) 81920 1)
+
+-- the table after a look for a listed conflict within the set x: as it was where its word has the set, else with that word anew
+unfoldable pub tabled : List ℕ → List ℕ → ℕ → ℕ → List ℕ
+tabled lateness list count x =
+    let word = getD lateness (wordOf x) 0 in
+    cond (ltb 0 word && eqb (word / 2) x) lateness (set lateness (wordOf x) (2 * x + boolByte (coveredBy list count x)))
+
+-- the words after a look for a listed conflict within the set x
+abbrev pub lookedFor : List ℕ → List ℕ → ℕ → ℕ → List ℕ
+lookedFor lateness list count x = cond (full list count) (tabled (opened lateness) list count x) (hinted lateness list count x)
+
+-- what is known of sets: whether they are late, and whether they hold a listed conflict
+pub record KnownSets (s : Tasks) (list : List ℕ) (count : ℕ) (lateness : List ℕ) : Type 0 where
+  pub late : LateCache s lateness
+  pub covers : CoverCache list count lateness
 
 -- the answer of the test by what it asks in turn: is the set late, are conflicts listed, does one of them lie within it, is the list full
 abbrev pub testBy : Bool → Bool → Bool → Bool → ℕ → Tested
@@ -100,7 +140,7 @@ testOf s mode x list count = testBy (lateTest s (has x)) (mode .listing) (covere
 unfoldable pub cacheAfter : Tasks → Mode → ℕ → List ℕ → ℕ → List ℕ → List ℕ
 cacheAfter s mode x list count lateness =
     let late = lateTest s (has x) in
-    cond (late && mode .listing) (hinted (withVerdict lateness x late) list count x) (withVerdict lateness x late)
+    cond (late && mode .listing) (lookedFor (withVerdict lateness x late) list count x) (withVerdict lateness x late)
 
 -- what the test of a set leaves: a list that may have grown by a conflict within the set, and the verdict
 pub record Noted (s : Tasks) (mode : Mode) (set : ℕ) (old : List ℕ) (before : ℕ) (new : List ℕ) (r : Tested) : Type 0 where

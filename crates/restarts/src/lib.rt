@@ -104,6 +104,7 @@ fn refuted_at_root<'a>(
         (λ t. Prepared t s) (λ t. Learnt t (now (rows .entry)) (now (lateness .entry)) (now (bounds .entry)))
         (λ t. (r ≡ true → NoneGood t (standing (s .on))) × Learnt t (now (rows .entry)) (now (lateness .exit)) (now (bounds .exit))) ⌝ }
 {
+    nogoods::forget(lateness);
     let mut no_list = [0u8; 3];
     let mode = Mode {
         listing: false,
@@ -167,6 +168,7 @@ fn attempt<'a>(
             };
         }
     }
+    nogoods::forget(lateness);
     let mut no_list = [0u8; 3];
     let mode = Mode {
         listing: false,
@@ -203,6 +205,7 @@ pub fn decide<'a>(
         (λ t. Ready t s) (λ t. Learnt t (now (rows .entry)) (now (lateness .entry)) (now (bounds .entry)))
         (λ t. DecidedAs (r .found) t (standing (s .on)) (r .on) × Learnt t (now (rows .entry)) (now (lateness .exit)) (now (bounds .exit))) ⌝ }
 {
+    nogoods::forget(lateness);
     let no_list = [0u8; 3];
     let quiet = Mode {
         listing: false,
@@ -283,6 +286,7 @@ fn replay<'a>(
         (λ t. CoveringAs t (standing (s .on)) (now (list .entry)) count (now (list .exit)) r × Learnt t (now (rows .entry)) (now (lateness .exit)) (now (bounds .exit))) ⌝ }
 {
     bring_back(heuristics);
+    nogoods::forget(lateness);
     let mode = Mode {
         listing: true,
         limited: false,

@@ -132,7 +132,7 @@ pub fn solve(table: Table, list: &mut [u8]) -> Solved
     let mut heuristics = [[0u32; 24]; 30];
     heuristics[NUMBERS][RANDOM] = 2463534242;
     heuristics[NUMBERS][CREDIT] = 1;
-    let mut lateness = [0u32; 73728];
+    let mut lateness = [0u32; 81921];
     let mut bounds = [0u64; 12288];
     solve_from(
         &timing,

@@ -9,7 +9,7 @@ use lib.Dec.{eqb}
 use lib.ListN.{length}
 use Rattle.region.specs.Given.{Gives}
 use Rattle.candidates.proofs.Choosing.{below-more, open-below}
-use Rattle.bound_cache.specs.BoundCache.{Learnt}
+use Rattle.bound_cache.specs.BoundCache.{LearntOf}
 use Rattle.capacity_bound.specs.Bound.{BoundedAs}
 use Rattle.capacity_bound.specs.CapacityBound.{Weighable}
 use Rattle.capacity_bound.proofs.Bounding.{weighable-then, bounded-not, bounded-then}
@@ -21,8 +21,8 @@ use Rattle.adaptive_bound.proofs.descend.Tie as tie
 abbrev Inv-loop : tie.InvT-loop
 Inv-loop timing rows messages sizes s sets pace mode list₀ count lateness₀ bounds₀ descent₀ listed₀ hopeless₀ list lateness bounds descent listed hopeless =
     (length list ≡ length list₀) × Moves descent
-    × Gives sizes timing rows messages (λ t. Weighable t mode s sets list₀ count) (λ t. Learnt t rows lateness₀ bounds₀)
-    (λ t. BoundedAs t mode s list₀ count list (record { hopeless = hopeless; count = listed }) × Learnt t rows lateness bounds)
+    × Gives sizes timing rows messages (λ t. Weighable t mode s sets list₀ count) (λ t. LearntOf t list₀ count rows lateness₀ bounds₀)
+    (λ t. BoundedAs t mode s list₀ count list (record { hopeless = hopeless; count = listed }) × LearntOf t list listed rows lateness bounds)
 
 abbrev μ-loop : tie.MeasureT-loop
 μ-loop timing rows messages sizes s sets pace mode list₀ count lateness₀ bounds₀ descent₀ listed₀ hopeless₀ list lateness bounds descent listed hopeless = cond hopeless 0 (descent .rounds + 1)

@@ -7,7 +7,7 @@ use Prim.Native.Nat.{ℕ, _+_, _*_, _-_, _≤_, _<_}
 use lib.ListN.{length}
 use Rattle.region.specs.Begins.{Begins}
 use Rattle.region.specs.Given.{Gives}
-use Rattle.bound_cache.specs.BoundCache.{Learnt}
+use Rattle.bound_cache.specs.BoundCache.{LearntOf}
 use Rattle.symmetry.proofs.Asking.{asks}
 use Rattle.backtrack.proofs.Backtracking.{backtracked-neither, backtracked-end, bounded-begins, bounded-hopeless, bounded-then}
 use Rattle.backtrack.proofs.Backtracking.{open-low, open-below, picked-waits, explored-narrowed, explored-symmetric, explored-closed, explored-begins, explored-falls, explored-open}
@@ -65,8 +65,8 @@ backtrack-below t = and 5 backtrack-kinds.ps (falls 5 backtrack-kinds.ps _<_ μ-
 abbrev branch-Inv-loop : branch-lts.InvT-loop
 branch-Inv-loop timing rows messages sizes s mode list₀ count heuristics₀ lateness₀ bounds₀ on k first at₀ i₀ list heuristics lateness bounds at i =
     (i ≤ sizes .processors) × (length list ≡ length list₀)
-    × Gives sizes timing rows messages (λ t. Begins t mode s list₀ at₀) (λ t. Learnt t rows lateness₀ bounds₀)
-    (λ t. Backtracking t mode s k list₀ at₀ first (sizes .processors) i list at × Learnt t rows lateness bounds)
+    × Gives sizes timing rows messages (λ t. Begins t mode s list₀ at₀) (λ t. LearntOf t list₀ at₀ rows lateness₀ bounds₀)
+    (λ t. Backtracking t mode s k list₀ at₀ first (sizes .processors) i list at × LearntOf t list at rows lateness bounds)
 
 abbrev branch-μ-loop : branch-lts.MeasureT-loop
 branch-μ-loop timing rows messages sizes s mode list₀ count heuristics₀ lateness₀ bounds₀ on k first at₀ i₀ list heuristics lateness bounds at i = sizes .processors - i

@@ -4,7 +4,7 @@ use Prim.Native.Nat.{_-_}
 use borrow.Author.Needs.{needs}
 use lib.ListN.{length}
 use Rattle.region.specs.Given.{Gives}
-use Rattle.bound_cache.specs.BoundCache.{Learnt}
+use Rattle.bound_cache.specs.BoundCache.{LearntOf}
 use Rattle.capacity_bound.specs.Bound.{BoundedAs}
 use Rattle.capacity_bound.specs.CapacityBound.{Weighable}
 use Rattle.capacity_bound.proofs.Bounding.{weighable-then, bounded-not, bounded-then}
@@ -14,8 +14,8 @@ use Rattle.bound.proofs.by_rows.Tie as tie
 abbrev Inv-loop : tie.InvT-loop
 Inv-loop timing rows messages sizes s sets mode list₀ count lateness₀ bounds₀ hopeless₀ listed₀ row₀ list lateness bounds hopeless listed row =
     (length list ≡ length list₀)
-    × Gives sizes timing rows messages (λ t. Weighable t mode s sets list₀ count) (λ t. Learnt t rows lateness₀ bounds₀)
-    (λ t. BoundedAs t mode s list₀ count list (record { hopeless = hopeless; count = listed }) × Learnt t rows lateness bounds)
+    × Gives sizes timing rows messages (λ t. Weighable t mode s sets list₀ count) (λ t. LearntOf t list₀ count rows lateness₀ bounds₀)
+    (λ t. BoundedAs t mode s list₀ count list (record { hopeless = hopeless; count = listed }) × LearntOf t list listed rows lateness bounds)
 
 abbrev μ-loop : tie.MeasureT-loop
 μ-loop timing rows messages sizes s sets mode list₀ count lateness₀ bounds₀ hopeless₀ listed₀ row₀ list lateness bounds hopeless listed row = 3 - row

@@ -5,7 +5,7 @@ use native.Mathlib.Omega.{arith}
 use borrow.Author.Needs.{needs}
 use lib.ListN.{length, length-set}
 use Rattle.timing.specs.Timing.{tasksIn}
-use Rattle.late_cache.specs.LateCache.{LateCache}
+use Rattle.nogoods.specs.Nogoods.{KnownSets}
 use Rattle.region.specs.Begins.{Opens}
 use Rattle.region.specs.Given.{Gives}
 use Rattle.candidates.proofs.Choosing.{Collecting, collecting-start, collecting-next, collecting-end}
@@ -15,8 +15,8 @@ use Rattle.candidates.proofs.candidates_of.Tie as tie
 abbrev Inv-loop : tie.InvT-loop
 Inv-loop timing rows messages sizes s mode list₀ count lateness₀ sets₀ listed₀ p₀ list lateness sets listed p =
     (p ≤ sizes .processors) × (length sets ≡ 8) × (length list ≡ length list₀)
-    × Gives sizes timing rows messages (λ t. Opens t s list₀ count) (λ t. LateCache (tasksIn t) lateness₀)
-    (λ t. Collecting t mode s list₀ count p sets list listed × LateCache (tasksIn t) lateness)
+    × Gives sizes timing rows messages (λ t. Opens t s list₀ count) (λ t. KnownSets (tasksIn t) list₀ count lateness₀)
+    (λ t. Collecting t mode s list₀ count p sets list listed × KnownSets (tasksIn t) list listed lateness)
 
 abbrev μ-loop : tie.MeasureT-loop
 μ-loop timing rows messages sizes s mode list₀ count lateness₀ sets₀ listed₀ p₀ list lateness sets listed p = sizes .processors - p

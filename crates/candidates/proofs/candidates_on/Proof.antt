@@ -10,7 +10,7 @@ use Rattle.mask.specs.Mask.{has}
 use Rattle.mask.proofs.Visit.{Visit, visit-start, visit-member, visit-less, visit-next}
 use Rattle.table.specs.declared.Table.{Table}
 use Rattle.timing.specs.Timing.{tasksIn}
-use Rattle.late_cache.specs.LateCache.{LateCache}
+use Rattle.nogoods.specs.Nogoods.{KnownSets}
 use Rattle.partial.specs.declared.State.{State}
 use Rattle.partial.specs.Partial.{siteOf}
 use Rattle.partial.proofs.Deciding.{left-at, free-at}
@@ -23,8 +23,8 @@ use Rattle.candidates.proofs.candidates_on.Tie as tie
 abbrev Inv-loop : tie.InvT-loop
 Inv-loop timing rows messages sizes p mode list₀ count lateness₀ site set₀ listed₀ rest₀ list lateness set listed rest =
     Visit 32 (site .left) rest (λ k. Unit {0}) × (length list ≡ length list₀)
-    × ((t : Table) (s : State) → Lends t sizes timing rows messages → Opens t s list₀ count → site ≡ siteOf s p → LateCache (tasksIn t) lateness₀
-    → Choosing t mode s p list₀ count set rest list listed × LateCache (tasksIn t) lateness)
+    × ((t : Table) (s : State) → Lends t sizes timing rows messages → Opens t s list₀ count → site ≡ siteOf s p → KnownSets (tasksIn t) list₀ count lateness₀
+    → Choosing t mode s p list₀ count set rest list listed × KnownSets (tasksIn t) list listed lateness)
 
 abbrev μ-loop : tie.MeasureT-loop
 μ-loop timing rows messages sizes p mode list₀ count lateness₀ site set₀ listed₀ rest₀ list lateness set listed rest = rest

@@ -9,7 +9,6 @@ pub is-full-spec : {M : Type 1} → statement M
 is-full-spec =
     tie.close
     (tie.spec
-    (λ c. rw (not-true (c .before .before .args .mode .listing) (c .if1 .taken)) refl)  -- returns
-    (λ c. search needs)  -- mul-result
-    (λ c. search needs)  -- add-result
-    (λ c. rw (not-false (c .before .before .args .mode .listing) (c .if1 .left)) refl))  -- returns-2
+    (λ c. rw (not-true (c .before .before .before .args .mode .listing) (c .if1 .taken)) refl)  -- returns
+    (λ c κs. search needs)  -- is-full-requires
+    (λ c. let i = c .before in rw (not-false (i .before .before .before .args .mode .listing) (i .if1 .left)) (c .is-full .ensures)))  -- returns-2

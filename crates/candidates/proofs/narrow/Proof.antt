@@ -9,7 +9,7 @@ use lib.Dec.{T}
 use Rattle.mask.specs.Mask.{has}
 use Rattle.mask.proofs.Visit.{Visit, visit-start, visit-member, visit-less, visit-next}
 use Rattle.schedule.specs.Arrays.{tasksOf}
-use Rattle.late_cache.specs.LateCache.{LateCache}
+use Rattle.nogoods.specs.Nogoods.{KnownSets}
 use Rattle.partial.proofs.Deciding.{free-at}
 use Rattle.candidates.specs.Narrowing.{mayStand, narrowOf}
 use Rattle.candidates.proofs.Filtering.{Filtering, filtering-start, filtering-keep, filtering-drop, filtering-end}
@@ -19,7 +19,7 @@ use Rattle.candidates.proofs.narrow.Tie as tie
 abbrev Inv-loop : tie.InvT-loop
 Inv-loop timing rows messages sizes site p set full list count lateness₀ kept₀ rest₀ lateness kept rest =
     Visit 32 set rest (λ k. Unit {0}) × Filtering (mayStand timing rows messages sizes full list count site p) set rest kept
-    × LateCache (tasksOf (sizes .tasks) timing) lateness
+    × KnownSets (tasksOf (sizes .tasks) timing) list count lateness
 
 abbrev μ-loop : tie.MeasureT-loop
 μ-loop timing rows messages sizes site p set full list count lateness₀ kept₀ rest₀ lateness kept rest = rest

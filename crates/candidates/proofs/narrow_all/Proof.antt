@@ -13,7 +13,7 @@ use Rattle.mask.proofs.Laws.{has-and}
 use Rattle.table.specs.Table.{column}
 use Rattle.table.proofs.FilledUp.{column-start, column-next}
 use Rattle.schedule.specs.Arrays.{tasksOf}
-use Rattle.late_cache.specs.LateCache.{LateCache}
+use Rattle.nogoods.specs.Nogoods.{KnownSets}
 use Rattle.partial.specs.Partial.{siteOf}
 use Rattle.candidates.specs.Narrowing.{narrowOf, mayOf}
 use Rattle.candidates.proofs.narrow_all.Statement.{statement}
@@ -23,7 +23,7 @@ abbrev Inv-loop : tie.InvT-loop
 Inv-loop timing rows messages sizes anew full list count lateness₀ s sets may₀ p₀ lateness may p =
     (p ≤ sizes .processors)
     × (may ≡ column 8 p (λ r. cond (has anew r) (narrowOf timing rows messages sizes full list count (siteOf s r) r (bitAnd (getD sets r 0) (s .left))) (bitAnd (getD sets r 0) (s .left))))
-    × LateCache (tasksOf (sizes .tasks) timing) lateness
+    × KnownSets (tasksOf (sizes .tasks) timing) list count lateness
 
 abbrev μ-loop : tie.MeasureT-loop
 μ-loop timing rows messages sizes anew full list count lateness₀ s sets may₀ p₀ lateness may p = sizes .processors - p

@@ -8,7 +8,7 @@ use Rattle.finite.specs.Finite.{sumTo}
 use Rattle.finite.proofs.Only.{sum-bound}
 use Rattle.region.specs.Given.{Gives}
 use Rattle.candidates.proofs.Choosing.{below-more, open-below, eligible-below}
-use Rattle.bound_cache.specs.BoundCache.{Learnt}
+use Rattle.bound_cache.specs.BoundCache.{LearntOf}
 use Rattle.capacity_bound.specs.CapacityBound.{heaviest, packingFuel, Weighable}
 use Rattle.capacity_bound.proofs.Weighted.{weight-among}
 use Rattle.capacity_bound.proofs.Tightening.{tops-start, Tightening, tightening-start, tightening-topped, tightening-next, tightening-end}
@@ -18,8 +18,8 @@ use Rattle.capacity_bound.proofs.weigh.Tie as tie
 abbrev Inv-loop : tie.InvT-loop
 Inv-loop timing rows messages weights order row sizes s sets mode list₀ count lateness₀ bounds₀ m need tops₀ found₀ sum₀ listed₀ calls₀ p₀ list lateness bounds tops found sum listed calls p =
     (p ≤ m) × (length tops ≡ 8) × (sum ≡ sumTo m (λ r. getD tops r 0)) × (length list ≡ length list₀)
-    × Gives sizes timing rows messages (λ t. Weighable t mode s sets list₀ count) (λ t. Learnt t rows lateness₀ bounds₀)
-    (λ t. Tightening t mode s weights sets list₀ count tops list listed × Learnt t rows lateness bounds)
+    × Gives sizes timing rows messages (λ t. Weighable t mode s sets list₀ count) (λ t. LearntOf t list₀ count rows lateness₀ bounds₀)
+    (λ t. Tightening t mode s weights sets list₀ count tops list listed × LearntOf t list listed rows lateness bounds)
     × (length found ≡ 8) × (calls ≤ packingFuel * p)
 
 abbrev μ-loop : tie.MeasureT-loop

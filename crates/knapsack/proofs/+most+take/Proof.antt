@@ -13,7 +13,7 @@ use lib.ListN.{length}
 use Rattle.schedule.specs.Arrays.{tasksOf}
 use Rattle.schedule.proofs.TasksOfArrays.{with-set}
 use Rattle.rows.specs.Rows.{memoryRow, exclusionRow, loadRow}
-use Rattle.late_cache.specs.LateCache.{LateCache}
+use Rattle.nogoods.specs.Nogoods.{KnownSets}
 use Rattle.nogoods.proofs.test.Reads as test-reads
 use Rattle.mask.proofs.Laws.{insert-below}
 use Rattle.mask.proofs.has.Reads as has-reads
@@ -58,7 +58,7 @@ most-Inv-loop timing rows weights order n mode list₀ count lateness₀ left₀
     (24 - left .at ≤ 24 - left₀ .at) × (length list ≡ length list₀) × Packs n timing left₀ list₀ count × Same left₀ left
     × Packing n (tasksOf n timing) mode (memoryRow rows) (exclusionRow rows) (loadRow rows) weights left₀ list₀ count
     (left .candidates) (left .reach) (left .best) list listed
-    × LateCache (tasksOf n timing) lateness
+    × KnownSets (tasksOf n timing) list listed lateness
 
 abbrev most-μ-loop : most-lts.MeasureT-loop
 most-μ-loop timing rows weights order n mode list₀ count lateness₀ left₀ listed₀ list lateness left listed =
@@ -220,7 +220,10 @@ pub +most+take-spec : {M : Type 1} → statement M
         x .test .ensures .1,
       ),
     ))  -- most-requires
-    (λ c. search needs)  -- same-length-2
+    (λ c.
+    let y = c .before .before in
+    let x = y .before .before .before .before .before .before .before .before .before .before .before .before .before .before .before in
+    y .most .kept .1 .1 .1 .1 .1 .1 .1 .0 ∙ x .test .kept .1 .1 .1 .1 .0)  -- same-length-2
     (λ c.
     let y = c .before .before in
     let w = y .before .before .before .before in

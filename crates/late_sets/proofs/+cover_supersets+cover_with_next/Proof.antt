@@ -6,6 +6,7 @@ use borrow.Author.Tests.{not-true, not-false}
 use borrow.Fn.Kinds.{In}
 use borrow.Fn.PlainCycle.{Measures, is, falls, and}
 use Rattle.late_cache.proofs.is_late.Reads as is-late-reads
+use Rattle.nogoods.proofs.Covers.{known-verdict}
 use Rattle.nogoods.proofs.test.Reads as test-reads
 use Rattle.region.proofs.Lending.{lent-tasks, lent-limits}
 use Rattle.late_sets.proofs.Joining.{one-more}
@@ -109,7 +110,7 @@ pub +cover-supersets+cover-with-next-spec : {M : Type 1} → statement M
     let z = x .before .before .pre .1 in
     let l = z .0 .1 .1 in
     let next = next-task (l .rules) (z .0 .1 .2) (z .1) in
-    rw (x .with-next .ensures .0) (lent-limits l (wider-below (l .rules) (z .0 .1 .2) (x .before .before .args .s) next), rw (lent-tasks l) (z .0 .1 .3)))  -- is-late-requires
+    rw (x .with-next .ensures .0) (lent-limits l (wider-below (l .rules) (z .0 .1 .2) (x .before .before .args .s) next), rw (lent-tasks l) (z .0 .1 .3 .late)))  -- is-late-requires
     (λ c κs.
     let i = c .before .before .before in
     let x = i .before .before .before .before in
@@ -120,7 +121,7 @@ pub +cover-supersets+cover-with-next-spec : {M : Type 1} → statement M
     let next = next-task (l .rules) (z .0 .1 .2) (z .1) in
     let e = x .with-next .ensures in (
       rw (e .0) (omega (arith, a .0, z .1, one-more (o .rows .now) (o .sizes .processors) (o .s) (o .subset))),
-      (z .0 .0, (z .0 .1 .0, l, rw (e .0) (wider-continues (l .rules) (z .0 .1 .2) (o .s) next (rw (e .0) at (e .1))), rw (lent-tasks l) at (i .is-late .ensures .1))),
+      (z .0 .0, (z .0 .1 .0, l, rw (e .0) (wider-continues (l .rules) (z .0 .1 .2) (o .s) next (rw (e .0) at (e .1))), known-verdict (z .0 .1 .3) _ _ (rw (lent-tasks l) at (i .is-late .ensures .1)) (i .is-late .ensures .2))),
     ))  -- cover-supersets-requires
     (λ c. search needs)  -- same-length
     (λ c links u l w k.
@@ -130,7 +131,7 @@ pub +cover-supersets+cover-with-next-spec : {M : Type 1} → statement M
     let e = x .with-next .ensures in
     let next = next-task (l .rules) w (x .before .before .pre .1 .1) in
     let in-time = rw (not-true (i .is-late .result) (y .before .before .before .if2 .taken), lent-tasks l) at (i .is-late .ensures .0) in
-    let v = y .cover-supersets .ensures links u l (rw (e .0) (wider-continues (l .rules) w (x .before .before .args .s) next (rw (e .0) at (e .1)))) (rw (lent-tasks l) at (i .is-late .ensures .1)) in
+    let v = y .cover-supersets .ensures links u l (rw (e .0) (wider-continues (l .rules) w (x .before .before .args .s) next (rw (e .0) at (e .1)))) (known-verdict k _ _ (rw (lent-tasks l) at (i .is-late .ensures .1)) (i .is-late .ensures .2)) in
     ((λ f m. covers-wider (l .rules) w (rw (e .0) at (v .0 f (rw (e .0) (wider-possible (l .rules) w f m next)) in-time))), v .1, v .2))  -- returns-2
     (λ c κs.
     let i = c .before .before .before in
@@ -138,7 +139,8 @@ pub +cover-supersets+cover-with-next-spec : {M : Type 1} → statement M
     let z = x .before .before .pre .1 in
     let l = z .0 .1 .1 in
     let next = next-task (l .rules) (z .0 .1 .2) (z .1) in
-    rw (x .with-next .ensures .0) (lent-limits l (wider-below (l .rules) (z .0 .1 .2) (x .before .before .args .s) next), rw (lent-tasks l) (z .0 .1 .2 .nogoods), i .is-late .ensures .1))  -- test-requires
+    let knows = known-verdict (z .0 .1 .3) _ _ (rw (lent-tasks l) at (i .is-late .ensures .1)) (i .is-late .ensures .2) in
+    rw (x .with-next .ensures .0) (lent-limits l (wider-below (l .rules) (z .0 .1 .2) (x .before .before .args .s) next), rw (lent-tasks l) (z .0 .1 .2 .nogoods), rw (lent-tasks l) knows))  -- test-requires
     (λ c. search needs)  -- same-length-2
     (λ c links u l w k.
     let y = c .before .before in

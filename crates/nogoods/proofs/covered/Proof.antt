@@ -1,15 +1,7 @@
--- Whatever the hint is, the conflict that it names is tested; else the first that is a subset is looked for.
-use mathlib.Core.Path.{refl, sym, ap, _∙_}
-use mathlib.Core.Logic.{⊎-elim}
-use Prim.Native.Nat.{ℕ}
-use lib.Dec.{ltb}
-use native.Mathlib.Omega.{arith}
+-- With a full list the table answers, else a look at the list.
+use mathlib.Core.Path.{sym, _∙_}
 use borrow.Author.Needs.{needs}
-use borrow.Author.Tests.{lt-ltb, le-ltb}
-use Rattle.finite.proofs.Some.{some-true}
-use Rattle.mask.proofs.Tests.{first-some}
-use Rattle.late_cache.proofs.Laws.{late-cache-hint}
-use Rattle.nogoods.proofs.Hints.{hinted-hit, hinted-miss}
+use borrow.Author.Tests.{not-true, not-false}
 use Rattle.nogoods.proofs.covered.Statement.{statement}
 use Rattle.nogoods.proofs.covered.Tie as tie
 
@@ -17,24 +9,20 @@ pub covered-spec : {M : Type 1} → statement M
 covered-spec =
     tie.close
     (tie.spec
-    (λ c κs. search needs)  -- place-of-requires
-    (λ c. search needs)  -- add-at
-    (λ c. search needs)  -- mul-hint
-    (λ c. search needs)  -- element-copy-out-hint
-    (λ c. record { fits = omega arith })  -- cast-hint
-    (λ c κs. search needs)  -- holds-requires
-    (λ c. let h = c .before in let inside = sym (h .holds .ensures) ∙ c .if2 .taken in (
-      sym (some-true _ _ _ (h .before .if1 .taken) inside),
-      λ s k. k,
-      hinted-hit _ _ _ _ (h .before .before .before .place-of .ensures) (h .before .if1 .taken) inside,
-    ))  -- returns
-    (λ c κs. search needs)  -- covering-requires
-    (λ c. search needs)  -- cast-lateness
-    (λ c. search needs)  -- mul-lateness
-    (λ c. search needs)  -- element-write-lateness
-    (λ c. let a = c .before .before .before .before .before .args in
-    let miss = ⊎-elim (λ w. rw (lt-ltb _ _ (w .0 .taken)) (sym (w .1 .ensures) ∙ w .2 .left)) (λ w. rw (le-ltb _ _ (w .left)) refl) (c .before .if1 .came) in (
-      ap (λ (x : ℕ). ltb x (a .count)) (c .covering .ensures) ∙ first-some _ _,
-      λ s k. late-cache-hint k _ (omega arith),
-      hinted-miss _ _ _ _ (c .before .before .before .place-of .ensures) miss (c .covering .ensures),
-    )))  -- returns-2
+    (λ c κs. search needs)  -- is-full-requires
+    (λ c κs. search needs)  -- covered-by-growing-requires
+    (λ c.
+    let i = c .before .before in
+    let f = i .before .is-full in
+    let g = c .covered-by-growing .ensures in
+    (g .0, rw (sym (f .ensures) ∙ not-true (f .result) (i .if1 .taken)) (g .1)))  -- returns
+    (λ c κs.
+    let i = c .before in
+    let f = i .before .is-full in
+    let z = i .before .before .before .pre in
+    (z .0, z .1, rw (sym (f .ensures) ∙ not-false (f .result) (i .if1 .left)) tt, z .2))  -- covered-by-full-requires
+    (λ c.
+    let i = c .before .before in
+    let f = i .before .is-full in
+    let g = c .covered-by-full .ensures in
+    (g .0, rw (sym (f .ensures) ∙ not-false (f .result) (i .if1 .left)) (g .1))))  -- returns-2

@@ -1,11 +1,11 @@
 -- The list stays as it is, or takes a conflict of a late set that holds no listed one.
+use native.Mathlib.Omega.{arith}
 use borrow.Author.Needs.{needs}
-use borrow.Author.Tests.{not-true, not-false, lt-ltb, le-ltb}
+use borrow.Author.Tests.{not-true, not-false, le-ltb, ltb-false}
 use mathlib.Core.Path.{_≡_, refl, sym, _∙_}
 use mathlib.Core.Bool.{true}
 use mathlib.Core.Logic.{inr}
 use Prim.Native.Nat.{_+_, _*_, _^_, _≤_, _<_}
-use lib.Dec.{lt→ltb}
 use lib.ListN.{length}
 use Rattle.mask.specs.Mask.{has}
 use Rattle.schedule.specs.Periodic.{LateSet}
@@ -13,10 +13,12 @@ use Rattle.schedule.specs.Arrays.{tasksOf}
 use Rattle.schedule.specs.Response.{lateTest}
 use Rattle.schedule.proofs.Says.{says-yes, says-no}
 use Rattle.conflict.proofs.Counting.{late-is}
-use Rattle.nogoods.specs.Nogoods.{cacheAfter}
+use Rattle.late_cache.proofs.Laws.{small-set}
+use Rattle.nogoods.specs.Nogoods.{KnownSets, cacheAfter}
 use Rattle.nogoods.proofs.Growth.{covered-yes, covered-no}
+use Rattle.nogoods.proofs.Covers.{known-grows, known-verdict, known-looked}
 use Rattle.nogoods.proofs.Testing.{test-is, cache-asked, cache-looked, unchanged, in-time}
-use Rattle.nogoods.proofs.Append.{list-appended, grows-append, nogoods-append, covered-append}
+use Rattle.nogoods.proofs.Append.{list-appended, extended-append, covered-append}
 use Rattle.nogoods.proofs.test.Statement.{statement}
 use Rattle.nogoods.proofs.test.Tie as tie
 
@@ -38,7 +40,21 @@ after c =
     let e = c .before .before .before in
     let b = e .before .before .before in
     let yes = both e in
-    cache-looked (b .before .before .before .pre .1) _ _ (by-test b) _ (rw (yes .0, yes .1) refl) (b .is-late .ensures .2) (c .covered .ensures .2)
+    cache-looked (b .before .before .before .pre .1) _ _ (by-test b) _ (rw (yes .0, yes .1) refl) (b .is-late .ensures .2) (c .covered .ensures .1)
+
+-- what is known of sets once the set was asked for, and once a conflict within it was looked for
+asked : (c : tie.After-is-late) → let z = c .before .before .before .args in
+    KnownSets (tasksOf (z .n) (z .timing .now)) (z .list .now) (z .count) (c .is-late .last .1 .1 .1 .0)
+asked c = known-verdict (c .before .before .before .pre .2) _ _ (c .is-late .ensures .1) (c .is-late .ensures .2)
+
+looked : (c : tie.After-covered) → let z = c .before .before .before .before .before .before .before .before .before .args in
+    KnownSets (tasksOf (z .n) (z .timing .now)) (z .list .now) (z .count) (c .covered .last .1 .1 .1 .0)
+looked c = known-looked (asked (c .before .before .before .before .before .before)) _ (c .covered .ensures .1)
+
+-- one more record and the end fit
+free-place : (c : tie.Else4) → let z = c .before .before .before .before .before .before .before .before .before .before .before .before .before .args in
+    6 * z .count + 9 ≤ length (z .list .now)
+free-place c = ltb-false _ _ (sym (c .before .is-full .ensures) ∙ c .if4 .left)
 
 pub test-spec : {M : Type 1} → statement M
 test-spec =
@@ -51,7 +67,7 @@ test-spec =
     let w = z .pre .1 in
     let no = not-true (b .result) (c .if1 .taken) in (
       unchanged w _ _ (test-is w _ _ (sym no ∙ by-test (c .before)) refl refl refl) (in-time w (a .mode) (a .set) (says-no (b .result) _ (b .ensures .0) no)),
-      b .ensures .1,
+      asked (c .before),
       cache-asked w _ _ (by-test (c .before)) _ (rw no refl) (b .ensures .2),
     ))  -- returns
     (λ c. let l = c .before .before in
@@ -61,10 +77,14 @@ test-spec =
     let yes = not-false (b .result) (l .if1 .left) in
     let no = not-true (z .args .mode .listing) (c .if2 .taken) in (
       unchanged w _ _ (test-is w _ _ (sym yes ∙ by-test (l .before)) (sym no) refl refl) (rw no (late l)),
-      b .ensures .1,
+      asked (l .before),
       cache-asked w _ _ (by-test (l .before)) _ (rw (yes, no) refl) (b .ensures .2),
     ))  -- returns-2
-    (λ c κs. search needs)  -- covered-requires
+    (λ c κs.
+    let e = c .before .before in
+    let b = e .before .before .before in
+    let z = b .before .before .before in
+    (search needs, omega (arith, small-set (z .pre .0)), asked b .covers))  -- covered-requires
     (λ c. search needs)  -- same-length
     (λ c.
     let e = c .before .before .before .before in
@@ -76,33 +96,33 @@ test-spec =
     let v = c .before .covered in (
       unchanged w _ _ (test-is w _ _ (sym (yes .0) ∙ by-test b) (sym (yes .1)) (sym (c .if3 .taken) ∙ v .ensures .0) refl)
           (rw (yes .1) (covered-yes (a .list .now) (a .count) (a .set) (v .ensures .0) (c .if3 .taken))),
-      v .ensures .1 _ (b .is-late .ensures .1),
+      looked (c .before),
       after (c .before),
     ))  -- returns-3
-    (λ c. search needs)  -- mul-if4
-    (λ c. search needs)  -- add-if4
+    (λ c κs. search needs)  -- is-full-requires
     (λ c. search needs)  -- same-length-2
     (λ c.
-    let n = c .before in
+    let n = c .before .before .before in
     let e = n .before .before .before .before in
     let b = e .before .before .before in
     let z = b .before .before .before in
     let w = z .pre .1 in
     let a = z .args in
     let yes = both e in
-    let v = n .before .covered in (
-      unchanged w _ _ (test-is w _ _ (sym (yes .0) ∙ by-test b) (sym (yes .1)) (sym (n .if3 .left) ∙ v .ensures .0) (sym (lt-ltb _ _ (c .if4 .taken))))
-          (rw (yes .1) (inr (lt→ltb _ _ (c .if4 .taken), covered-no (a .list .now) (a .count) (a .set) (v .ensures .0) (n .if3 .left)))),
-      v .ensures .1 _ (b .is-late .ensures .1),
+    let v = n .before .covered in
+    let fills = sym (c .if4 .taken) ∙ c .before .is-full .ensures in (
+      unchanged w _ _ (test-is w _ _ (sym (yes .0) ∙ by-test b) (sym (yes .1)) (sym (n .if3 .left) ∙ v .ensures .0) fills)
+          (rw (yes .1) (inr (rw (← fills) tt, covered-no (a .list .now) (a .count) (a .set) (v .ensures .0) (n .if3 .left)))),
+      looked (n .before),
       after (n .before),
     ))  -- returns-4
-    (λ c κs. (search needs, late (c .before .before .before .before .before .before .before)))  -- extract-requires
-    (λ c κs. search needs)  -- append-requires
+    (λ c κs. (search needs, late (c .before .before .before .before .before .before .before .before .before)))  -- extract-requires
+    (λ c κs. omega (arith, free-place (c .before .before)))  -- append-requires
     (λ c. search needs)  -- add-t16
     (λ c. search needs)  -- same-length-3
     (λ c.
     let m = c .before .before .before .before in
-    let n = m .before .before in
+    let n = m .before .before .before .before in
     let e = n .before .before .before .before in
     let b = e .before .before .before in
     let z = b .before .before .before in
@@ -110,18 +130,16 @@ test-spec =
     let w = z .pre .1 in
     let yes = both e in
     let v = n .before .covered in
-    let free : 6 * a .count + 9 ≤ length (a .list .now) = search needs in
+    let free : 6 * a .count + 9 ≤ length (a .list .now) = free-place (m .before) in
     let fits : m .extract .result < 2 ^ 32 = search needs in
-    let new = c .before .before .append .ensures in (
+    let new = c .before .before .append .ensures in
+    let longer = extended-append w free fits new (m .extract .ensures) (covered-no (a .list .now) (a .count) (a .set) (v .ensures .0) (n .if3 .left)) in (
       record {
         value = test-is w _ _ (sym (yes .0) ∙ by-test b) (sym (yes .1)) (sym (n .if3 .left) ∙ v .ensures .0) (sym (le-ltb _ _ free));
         bytes = list-appended w free fits new;
-        list = record {
-          nogoods = nogoods-append w free fits new (m .extract .ensures) (covered-no (a .list .now) (a .count) (a .set) (v .ensures .0) (n .if3 .left));
-          grows = grows-append w free fits new (m .extract .ensures .inside);
-        };
+        list = longer;
         verdict = rw (yes .1) (covered-append w free fits new (m .extract .ensures .inside));
       },
-      v .ensures .1 _ (b .is-late .ensures .1),
+      known-grows longer (looked (n .before)),
       after (n .before),
     )))  -- returns-5

@@ -4,6 +4,7 @@ use borrow.Author.Needs.{needs}
 use Rattle.region.specs.Begins.{Prepared}
 use Rattle.region.specs.Given.{Gives}
 use Rattle.bound_cache.specs.BoundCache.{Learnt}
+use Rattle.bound_cache.proofs.Laws.{learnt-forgot, learnt-of}
 use Rattle.restarts.proofs.Answering.{prepared-begins, attempted, attempt-refuted}
 use Rattle.restarts.proofs.attempt.Statement.{statement}
 use Rattle.restarts.proofs.attempt.Tie as tie
@@ -24,12 +25,15 @@ attempt-spec =
     (λ c. search needs)  -- index-2-if1
     (λ c κs. search needs)  -- refuted-at-root-requires
     (λ c t l w k. let y = c .before .refuted-at-root .ensures t l w k in (attempt-refuted (y .0 (c .if2 .taken)), y .1))  -- returns
+    (λ c κs. search needs)  -- forget-requires
     (λ c. search needs)  -- slice-aggregate-backtrack
     (λ c κs.
-    let j = c .before .before .before .before in
+    let f = c .before .before .before .before in
+    let j = f .before .before in
     let a = j .before .before .before .before .before .pre in
-    (a .0, a .1, prepared-begins (search needs) (a .2), root-learnt j (a .0) (a .1) (a .2) (a .3)))  -- backtrack-requires
+    (a .0, a .1, prepared-begins (search needs) (a .2), learnt-forgot (root-learnt j (a .0) (a .1) (a .2) (a .3)) (f .forget .ensures)))  -- backtrack-requires
     (λ c t l w k.
     let x = c .before in
-    let y = x .backtrack .ensures t l (prepared-begins (search needs) w) (root-learnt (x .before .before .before .before .before) t l w k) in
-    (attempted (y .0), y .1)))  -- returns-2
+    let f = x .before .before .before .before .before in
+    let y = x .backtrack .ensures t l (prepared-begins (search needs) w) (learnt-forgot (root-learnt (f .before .before) t l w k) (f .forget .ensures)) in
+    (attempted (y .0), learnt-of (y .1))))  -- returns-2

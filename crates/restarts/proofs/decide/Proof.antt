@@ -5,6 +5,7 @@ use mathlib.Core.Logic.{⊎-elim}
 use Prim.Native.Nat.{_-_, _≤_}
 use native.Mathlib.Omega.{arith}
 use borrow.Author.Needs.{needs}
+use Rattle.nogoods.proofs.Covers.{known-forgot}
 use Rattle.region.specs.Begins.{Prepared}
 use Rattle.region.specs.Given.{Gives}
 use Rattle.bound_cache.specs.BoundCache.{Learnt}
@@ -26,8 +27,12 @@ decide-spec =
     (tie.spec
     Inv-loop
     μ-loop
+    (λ c κs. search needs)  -- forget-requires
     (λ c. search needs)  -- slice-aggregate-prepare
-    (λ c κs. let a = c .before .before .pre in ((a .0, a .1, a .2 .fits, a .3 .knows), search needs))  -- prepare-requires
+    (λ c κs.
+    let f = c .before .before in
+    let a = f .before .before .pre in
+    ((a .0, a .1, a .2 .fits, known-forgot (a .3 .knows) (f .forget .ensures) _ _), search needs))  -- prepare-requires
     (λ c. search needs)  -- index-1-heuristics
     (λ c. search needs)  -- index-2-heuristics
     (λ c. (omega arith, omega arith, omega arith, λ t l w k. k))  -- loop-holds
@@ -35,17 +40,19 @@ decide-spec =
     (λ c κs.
     let i = c .before .before .before .before .before .before in
     let p = i .before in
-    let a = p .before .before .before .pre in
+    let g = p .before .before .before in
+    let a = g .before .before .pre in
     let b = ready-prepared (a .1) _ 0 true (a .2) (p .prepare .ensures .0) in
-    (a .0, a .1, b, i .loop .inv .3 (a .0) (a .1) b (record { knows = p .prepare .ensures .1 (a .0) (a .1) (a .2 .fits) (a .3 .knows); keeps = a .3 .keeps })))  -- attempt-requires
+    (a .0, a .1, b, i .loop .inv .3 (a .0) (a .1) b (record { knows = p .prepare .ensures .1 (a .0) (a .1) (a .2 .fits) (known-forgot (a .3 .knows) (g .forget .ensures) _ _) .late; keeps = a .3 .keeps })))  -- attempt-requires
     (λ c t l w k.
     let x = c .before .before in
     let i = x .before .before .before .before .before .before .before in
     let p = i .before in
+    let g = p .before .before .before in
     let b = ready-prepared l _ 0 true w (p .prepare .ensures .0) in
-    let y = x .attempt .ensures t l b (i .loop .inv .3 t l b (record { knows = p .prepare .ensures .1 t l (w .fits) (k .knows); keeps = k .keeps })) in
+    let y = x .attempt .ensures t l b (i .loop .inv .3 t l b (record { knows = p .prepare .ensures .1 t l (w .fits) (known-forgot (k .knows) (g .forget .ensures) _ _) .late; keeps = k .keeps })) in
     let d = decided _ (x .attempt .result) (y .0) (λ e. ⊎-elim (λ u. absurd (false≢true (sym e ∙ u .taken))) (λ u. u .1 .taken) (c .before .if1 .came)) in
-    (decided-begin t (p .before .before .before .args .s) _ (p .prepare .ensures .0) (x .attempt .result .found) (x .attempt .result .on) d, y .1))  -- returns
+    (decided-begin t (g .before .before .args .s) _ (p .prepare .ensures .0) (x .attempt .result .found) (x .attempt .result .on) d, y .1))  -- returns
     (λ c. search needs)  -- add-fuel
     (λ c. search needs)  -- add-run
     (λ c. search needs)  -- loop-less
@@ -62,13 +69,15 @@ decide-spec =
     (λ c κs.
     let i = c .before .before .before .before .before .before in
     let p = i .before in
-    let a = p .before .before .before .pre in
+    let g = p .before .before .before in
+    let a = g .before .before .pre in
     let b = ready-prepared (a .1) _ 0 true (a .2) (p .prepare .ensures .0) in
-    (a .0, a .1, b, i .loop .inv .3 (a .0) (a .1) b (record { knows = p .prepare .ensures .1 (a .0) (a .1) (a .2 .fits) (a .3 .knows); keeps = a .3 .keeps })))  -- attempt-requires-2
+    (a .0, a .1, b, i .loop .inv .3 (a .0) (a .1) b (record { knows = p .prepare .ensures .1 (a .0) (a .1) (a .2 .fits) (known-forgot (a .3 .knows) (g .forget .ensures) _ _) .late; keeps = a .3 .keeps })))  -- attempt-requires-2
     (λ c t l w k.
     let x = c .before in
     let i = x .before .before .before .before .before .before .before in
     let p = i .before in
+    let g = p .before .before .before in
     let b = ready-prepared l _ 0 true w (p .prepare .ensures .0) in
-    let y = x .attempt2 .ensures t l b (i .loop .inv .3 t l b (record { knows = p .prepare .ensures .1 t l (w .fits) (k .knows); keeps = k .keeps })) in
-    (decided-begin t (p .before .before .before .args .s) _ (p .prepare .ensures .0) (x .attempt2 .result .found) (x .attempt2 .result .on) (decided _ (x .attempt2 .result) (y .0) (y .0 .certain refl)), y .1)))  -- returns-2
+    let y = x .attempt2 .ensures t l b (i .loop .inv .3 t l b (record { knows = p .prepare .ensures .1 t l (w .fits) (known-forgot (k .knows) (g .forget .ensures) _ _) .late; keeps = k .keeps })) in
+    (decided-begin t (g .before .before .args .s) _ (p .prepare .ensures .0) (x .attempt2 .result .found) (x .attempt2 .result .on) (decided _ (x .attempt2 .result) (y .0) (y .0 .certain refl)), y .1)))  -- returns-2

@@ -34,7 +34,7 @@ solve-spec =
     let b = v .before .before .before .before .before .before in
     let kept = ordered-rows _ _ _ _ _ (g .ordered .ensures) in
     let l = lends-table (b .pre .0) (v .before .before .before .before .sizes-of .ensures) (v .before .before .before .timing-of .ensures) (v .before .before .rows-of .ensures) (v .before .messages-of .ensures) kept in
-    ((b .args .table, l, rw (v .start .ensures) (started (b .pre .0 .processors .most)), learnt-start (late-cache-start _ 73728)), b .pre .1))  -- run-requires
+    ((b .args .table, l, rw (v .start .ensures) (started (b .pre .0 .processors .most)), learnt-start (late-cache-start _ 81921)), b .pre .1))  -- run-requires
     (λ c. search needs)  -- same-length
     (λ c.
     let r = c .before .before in
@@ -43,4 +43,4 @@ solve-spec =
     let b = v .before .before .before .before .before .before in
     let kept = ordered-rows _ _ _ _ _ (g .ordered .ensures) in
     let l = lends-table (b .pre .0) (v .before .before .before .before .sizes-of .ensures) (v .before .before .before .timing-of .ensures) (v .before .before .rows-of .ensures) (v .before .messages-of .ensures) kept in
-    r .solve-from .ensures (b .args .table) l (rw (v .start .ensures) (started (b .pre .0 .processors .most))) (learnt-start (late-cache-start _ 73728))))  -- returns
+    r .solve-from .ensures (b .args .table) l (rw (v .start .ensures) (started (b .pre .0 .processors .most))) (learnt-start (late-cache-start _ 81921))))  -- returns
