@@ -1,2 +1,1 @@
-pub mod Descent
 pub mod AdaptiveBound

@@ -16,7 +16,7 @@ use Rattle.region.specs.Begins.{Begins, Opens}
 use Rattle.candidates.specs.declared.Candidates.{Candidates}
 use Rattle.candidates.specs.Candidates.{Choices, CandidatesAs}
 use Rattle.candidates.proofs.Fairness.{refuted-fair}
-use Rattle.candidates.proofs.Keeping.{narrowed-choices}
+use Rattle.narrowing.proofs.Keeping.{narrowed-choices}
 use Rattle.network_bound.specs.NetworkBound.{crossingOf}
 use Rattle.network_bound.proofs.Network.{crossing-fits}
 use Rattle.capacity_bound.specs.declared.Bounded.{Bounded}

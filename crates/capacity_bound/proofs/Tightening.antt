@@ -42,7 +42,8 @@ use Rattle.knapsack.proofs.Taking.{takes-map}
 use Rattle.bound_cache.specs.BoundCache.{Capped}
 use Rattle.capacity_bound.specs.declared.Tightened.{Tightened}
 use Rattle.capacity_bound.specs.Bound.{BoundedAs}
-use Rattle.capacity_bound.specs.CapacityBound.{heaviest, packingFuel, Weights, TopAs, Covers, Joins, Bounds, Tops, Weighable, Topped, TightAs}
+use Rattle.subgradient.specs.Subgradient.{heaviest}
+use Rattle.capacity_bound.specs.CapacityBound.{packingFuel, Weights, TopAs, Covers, Joins, Bounds, Tops, Weighable, Topped, TightAs}
 use Rattle.capacity_bound.proofs.OpenTasks.{openOn, fair-joins, open-sum}
 
 -- fewer kinds of sets

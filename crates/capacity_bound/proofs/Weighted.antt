@@ -13,8 +13,8 @@ use Rattle.mask.specs.Mask.{below, Subset}
 use Rattle.mask.proofs.Laws.{sum-subset, sum-wider}
 use Rattle.partial.specs.declared.State.{State}
 use Rattle.knapsack.specs.Knapsack.{weightOf}
-use Rattle.subgradient.specs.Subgradient.{totalOf}
-use Rattle.capacity_bound.specs.CapacityBound.{heaviest, TopAs}
+use Rattle.subgradient.specs.Subgradient.{totalOf, heaviest}
+use Rattle.capacity_bound.specs.CapacityBound.{TopAs}
 
 -- the lower of two numbers is one of them
 pub lower-is : (a b : ℕ) {r : ℕ} → r ≡ min a b → (r ≤ a) × (r ≤ b) × ((r ≡ a) ⊎ (r ≡ b))

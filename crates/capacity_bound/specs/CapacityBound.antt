@@ -18,15 +18,12 @@ use Rattle.region.specs.Region.{Within, Met}
 use Rattle.region.specs.Begins.{Eligible}
 use Rattle.candidates.specs.Candidates.{Choices}
 use Rattle.knapsack.specs.Knapsack.{weightOf, Takes}
+use Rattle.subgradient.specs.Subgradient.{heaviest}
 use Rattle.capacity_bound.specs.declared.Tightened.{Tightened}
 
 -- for a row below 3 the weights are those of the row; from 3 on they may be any
 abbrev pub Weights : List (List ℕ) → ℕ → List ℕ → Type 0
 Weights rows row weights = row < 3 → weights ≡ weightsIn rows row
-
--- no set of tasks weighs more
-abbrev pub heaviest : ℕ
-heaviest = 24 * 4294967295
 
 -- how many calls each packing may use
 abbrev pub packingFuel : ℕ

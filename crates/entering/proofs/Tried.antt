@@ -30,8 +30,8 @@ use Rattle.region.proofs.Refuting.{refuted-broken, refuted-set, met-here}
 use Rattle.region.specs.Begins.{Stands, Begins, withMay}
 use Rattle.region.specs.Lends.{Lends}
 use Rattle.region.proofs.Narrowing.{fits-may, stepped-may}
-use Rattle.candidates.specs.Narrowing.{refreshedOf}
-use Rattle.candidates.proofs.Keeping.{refreshed-narrowed}
+use Rattle.narrowing.specs.Narrowing.{refreshedOf}
+use Rattle.narrowing.proofs.Keeping.{refreshed-narrowed}
 use Rattle.entering.specs.declared.Entered.{Entered}
 use Rattle.entering.specs.Entering.{EntersAs, AdmittedAs, EnteredAs}
 

@@ -96,7 +96,7 @@ pub fn enter<'a>(
         return admitted;
     }
     let mut next = admitted.next;
-    let may = candidates::refresh(
+    let may = narrowing::refresh(
         timing,
         rows,
         messages,

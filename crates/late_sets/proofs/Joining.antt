@@ -31,8 +31,9 @@ use Rattle.partial.proofs.OneMore.{kept-le, residence-needed}
 use Rattle.region.proofs.Refuting.{and-within}
 use Rattle.candidates.specs.Candidates.{Fair}
 use Rattle.candidates.proofs.Fairness.{stands-or-open, not-both-there}
-use Rattle.late_sets.specs.declared.Subset.{Subset}
-use Rattle.late_sets.specs.LateSets.{canStand, takes, processorsFor, joinedBy, withNext, openSum, Kept, Possible}
+use Rattle.subsets.specs.declared.Subset.{Subset}
+use Rattle.subsets.specs.Subsets.{canStand, takes, processorsFor, joinedBy, withNext}
+use Rattle.late_sets.specs.LateSets.{openSum, Kept, Possible}
 
 -- a choice between two tests
 cond-in : (b x y : Bool) → (T b → T x) → ((T b → ⊥) → T y) → T (cond b x y)

@@ -30,9 +30,10 @@ use Rattle.partial.specs.declared.State.{State}
 use Rattle.partial.specs.Partial.{Lent, Fits}
 use Rattle.region.specs.Region.{Within, Met}
 use Rattle.candidates.proofs.Meeting.{met-among}
-use Rattle.late_sets.specs.declared.Subset.{Subset}
+use Rattle.subsets.specs.declared.Subset.{Subset}
 use Rattle.late_sets.specs.declared.Covering.{Covering}
-use Rattle.late_sets.specs.LateSets.{withNext, Small, Kept, Continues, Possible, InTime, BeginsWith, CoversAs}
+use Rattle.subsets.specs.Subsets.{withNext, Small}
+use Rattle.late_sets.specs.LateSets.{Kept, Continues, Possible, InTime, BeginsWith, CoversAs}
 use Rattle.late_sets.proofs.Joining.{cond-out, one-of, new-one, old-one, open-none, possible-next}
 
 -- the subset without its next task: those after it may still join

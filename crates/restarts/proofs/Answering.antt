@@ -15,8 +15,8 @@ use Rattle.partial.specs.declared.State.{State}
 use Rattle.region.specs.Lends.{Lends}
 use Rattle.region.specs.Begins.{withMay, Stands, Begins, Opens, Ready, Prepared}
 use Rattle.region.proofs.Narrowing.{fits-may}
-use Rattle.candidates.specs.Narrowing.{preparedOf}
-use Rattle.candidates.proofs.Keeping.{prepared-narrowed, narrowed-choices}
+use Rattle.narrowing.specs.Narrowing.{preparedOf}
+use Rattle.narrowing.proofs.Keeping.{prepared-narrowed, narrowed-choices}
 use Rattle.late_sets.specs.declared.Covering.{Covering}
 use Rattle.late_sets.specs.LateSets.{CoversAs}
 use Rattle.capacity_bound.specs.CapacityBound.{Weighable}

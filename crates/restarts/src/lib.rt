@@ -1,7 +1,6 @@
 // The search of a region, in its two ways: whether it has a placement without a late set; and which conflicts rule out all of its placements.
 ghost use mathlib.Core.Path.{_≡_};
 ghost use mathlib.Core.Bool.{true};
-ghost use Prim.Native.Nat.{_≤_};
 ghost use Rattle.schedule.specs.Periodic.{LateSet};
 ghost use Rattle.timing.specs.Timing.{tasksIn};
 ghost use Rattle.rules.specs.Sets.{standing};
@@ -10,14 +9,10 @@ ghost use Rattle.region.specs.Region.{Within, Refuted};
 ghost use Rattle.region.specs.Begins.{Begins, Ready, Prepared};
 ghost use Rattle.region.specs.Given.{Given, Gives};
 ghost use Rattle.bound_cache.specs.BoundCache.{Learnt};
-ghost use Rattle.restarts.specs.Runs.{keptOf, broughtBackOf, isWeighted, shareOf, runOf};
 ghost use Rattle.restarts.specs.Restarts.{AttemptedAs, NoneGood, DecidedAs, CoveringAs};
 use backtrack::Backtracked;
 use bound_cache::BoundCache;
-use heuristics::FAILURES;
-use heuristics::FUEL;
 use heuristics::Heuristics;
-use heuristics::KEPT;
 use heuristics::NODES;
 use heuristics::NUMBERS;
 use heuristics::WEIGHTED;
@@ -39,53 +34,6 @@ pub struct Decided {
 pub struct Listed {
     pub cut: bool,
     pub count: usize,
-}
-
-// The failure weights and the numbers that a run begins with are kept.
-fn keep(heuristics: &mut Heuristics)
-    ensures { λ _. ⌜ now (heuristics .exit) ≡ keptOf (now (heuristics .entry)) ⌝ }
-{
-    heuristics[KEPT + FAILURES] = heuristics[FAILURES];
-    heuristics[KEPT + NUMBERS] = heuristics[NUMBERS];
-}
-
-// They are brought back, so that the run can be replayed. The weights of the bound need not be: the run left those that it began with, and makes the
-// others anew from them.
-fn bring_back(heuristics: &mut Heuristics)
-    ensures { λ _. ⌜ now (heuristics .exit) ≡ broughtBackOf (now (heuristics .entry)) ⌝ }
-{
-    heuristics[FAILURES] = heuristics[KEPT + FAILURES];
-    heuristics[NUMBERS] = heuristics[KEPT + NUMBERS];
-}
-
-// Whether the weights of the bound adapt in a run: not in the first two, then in every second one.
-fn is_weighted(run: u32) -> bool
-    ensures { λ r. ⌜ r ≡ isWeighted run ⌝ }
-{
-    1 < run && run % 2 == 0
-}
-
-// How many steps a run may take: fewer where the weights adapt, as a step takes longer then; the runs between get more.
-fn share(fuel: u32, run: u32) -> u32
-    requires { ⌜ fuel ≤ 1500000 ⌝ }
-    ensures { λ r. ⌜ r ≡ shareOf fuel run ⌝ }
-{
-    if is_weighted(run) {
-        return fuel / 2;
-    }
-    if run < 2 {
-        return fuel;
-    }
-    4 * fuel
-}
-
-// A run is prepared: how many steps it may take, and whether the weights of the bound adapt.
-fn begin_run(heuristics: &mut Heuristics, fuel: u32, run: u32)
-    requires { ⌜ fuel ≤ 1500000 ⌝ }
-    ensures { λ _. ⌜ now (heuristics .exit) ≡ runOf (now (heuristics .entry)) fuel run ⌝ }
-{
-    heuristics[NUMBERS][FUEL] = share(fuel, run);
-    heuristics[NUMBERS][WEIGHTED] = is_weighted(run) as u32;
 }
 
 // Whether weights are found at the root of a decision that refute the whole region.
@@ -146,7 +94,7 @@ fn attempt<'a>(
         (λ t. Prepared t s) (λ t. Learnt t (now (rows .entry)) (now (lateness .entry)) (now (bounds .entry)))
         (λ t. AttemptedAs t limited (standing (s .on)) r × Learnt t (now (rows .entry)) (now (lateness .exit)) (now (bounds .exit))) ⌝ }
 {
-    keep(heuristics);
+    runs::keep(heuristics);
     let on = s.on;
     if heuristics[NUMBERS][WEIGHTED] != 0 {
         let refuted = refuted_at_root(
@@ -211,7 +159,7 @@ pub fn decide<'a>(
         listing: false,
         limited: true,
     };
-    let begin = candidates::prepare(
+    let begin = narrowing::prepare(
         timing,
         rows,
         messages,
@@ -226,7 +174,7 @@ pub fn decide<'a>(
     let mut fuel: u32 = 300;
     let mut run: u32 = 0;
     while fuel < 900000 {
-        begin_run(heuristics, fuel, run);
+        runs::begin_run(heuristics, fuel, run);
         let outcome = attempt(
             timing,
             rows,
@@ -248,7 +196,7 @@ pub fn decide<'a>(
         fuel += fuel / 2;
         run += 1;
     }
-    begin_run(heuristics, fuel, run);
+    runs::begin_run(heuristics, fuel, run);
     let last = attempt(
         timing,
         rows,
@@ -285,13 +233,13 @@ fn replay<'a>(
         (λ t. Begins t lists s (now (list .entry)) count) (λ t. Learnt t (now (rows .entry)) (now (lateness .entry)) (now (bounds .entry)))
         (λ t. CoveringAs t (standing (s .on)) (now (list .entry)) count (now (list .exit)) r × Learnt t (now (rows .entry)) (now (lateness .exit)) (now (bounds .exit))) ⌝ }
 {
-    bring_back(heuristics);
+    runs::bring_back(heuristics);
     nogoods::forget(lateness);
     let mode = Mode {
         listing: true,
         limited: false,
     };
-    let begin = candidates::prepare(
+    let begin = narrowing::prepare(
         timing,
         rows,
         messages,

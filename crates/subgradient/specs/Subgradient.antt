@@ -45,6 +45,10 @@ normOf direction left = sumOver 24 left (λ k. distance (getD direction k 0) * d
 abbrev pub totalOf : List ℕ → ℕ → ℕ
 totalOf weights set = sumOver 24 set (λ k. getD weights k 0)
 
+-- no set of tasks weighs more
+abbrev pub heaviest : ℕ
+heaviest = 24 * 4294967295
+
 -- how far a step goes: the gap and a 200th of the scale, by alpha in per cent
 abbrev pub strideOf : ℕ → ℕ → ℕ → ℕ
 strideOf gap scale alpha = (gap + scale / 200 + 1) * alpha / 100

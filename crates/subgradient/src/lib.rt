@@ -1,10 +1,10 @@
 // The weights of the weight bound adapt by a subgradient method: a task that the best packings leave out gets heavier, one that several of them take gets
 // lighter. The bound is right for any weights, so no answer rests on these numbers.
 ghost use mathlib.Core.Path.{_≡_};
-ghost use Prim.Native.Nat.{_≤_, _<_};
+ghost use Prim.Native.Nat.{_*_, _≤_, _<_};
 ghost use lib.Dec.{T};
 ghost use Rattle.mask.specs.Mask.{below};
-ghost use Rattle.subgradient.specs.Subgradient.{AtMost, countedOf, countsOf, directionFrom, directionOf, distance, normOf, totalOf, strideOf, limited, movedWeight, movedOf, offScale, scaledOf, rescaledOf, adaptOf};
+ghost use Rattle.subgradient.specs.Subgradient.{AtMost, countedOf, countsOf, directionFrom, directionOf, distance, normOf, totalOf, strideOf, limited, movedWeight, movedOf, offScale, scaledOf, rescaledOf, adaptOf, heaviest};
 use numbers::lower;
 use numbers::wide;
 
@@ -100,7 +100,7 @@ fn norm(direction: [u32; 24], left: u32) -> u64
 // The weight of a set of tasks.
 pub fn total(weights: &[u32; 24], set: u32) -> u64
     requires { ⌜ T (below 24 set) ⌝ }
-    ensures { λ r. ⌜ (r ≡ totalOf (now (weights .entry)) set) × (r ≤ 103079215080) ⌝ }
+    ensures { λ r. ⌜ (r ≡ totalOf (now (weights .entry)) set) × (r ≤ heaviest) ⌝ }
 {
     let mut sum: u64 = 0;
     let mut rest = set;
@@ -114,7 +114,7 @@ pub fn total(weights: &[u32; 24], set: u32) -> u64
 
 // How far the step goes: by the gap that is to be closed, and a little more; alpha is in per cent.
 fn stride(gap: u64, scale: u64, alpha: u64) -> u64
-    requires { ⌜ (gap ≤ 824633720640) × (scale ≤ 103079215080) × (alpha ≤ 100) ⌝ }
+    requires { ⌜ (gap ≤ 8 * heaviest) × (scale ≤ heaviest) × (alpha ≤ 100) ⌝ }
     ensures { λ r. ⌜ (r ≡ strideOf gap scale alpha) × (r ≤ 825149116716) ⌝ }
 {
     (gap + scale / 200 + 1) * alpha / 100
@@ -209,7 +209,7 @@ pub fn adapt(
     gap: u64,
     alpha: u64,
 ) -> Adapted
-    requires { ⌜ AtMost 2048 before × (m ≤ 8) × T (below 24 left) × (gap ≤ 824633720640) × (alpha ≤ 100) ⌝ }
+    requires { ⌜ AtMost 2048 before × (m ≤ 8) × T (below 24 left) × (gap ≤ 8 * heaviest) × (alpha ≤ 100) ⌝ }
     ensures { λ r. ⌜ r ≡ adaptOf weights before first sets m left gap alpha ⌝ }
 {
     let direction = direction(first, before, counts(sets, m));

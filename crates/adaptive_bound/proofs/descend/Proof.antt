@@ -13,8 +13,8 @@ use Rattle.bound_cache.specs.BoundCache.{LearntOf}
 use Rattle.capacity_bound.specs.Bound.{BoundedAs}
 use Rattle.capacity_bound.specs.CapacityBound.{Weighable}
 use Rattle.capacity_bound.proofs.Bounding.{weighable-then, bounded-not, bounded-then}
-use Rattle.adaptive_bound.specs.Descent.{Moves}
-use Rattle.adaptive_bound.proofs.Moving.{begin-moves, Later, after-later}
+use Rattle.descent.specs.Descent.{Moves}
+use Rattle.descent.proofs.Moving.{begin-moves, Later, after-later}
 use Rattle.adaptive_bound.proofs.descend.Statement.{statement}
 use Rattle.adaptive_bound.proofs.descend.Tie as tie
 

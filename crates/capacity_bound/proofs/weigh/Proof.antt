@@ -9,7 +9,8 @@ use Rattle.finite.proofs.Only.{sum-bound}
 use Rattle.region.specs.Given.{Gives}
 use Rattle.candidates.proofs.Choosing.{below-more, open-below, eligible-below}
 use Rattle.bound_cache.specs.BoundCache.{LearntOf}
-use Rattle.capacity_bound.specs.CapacityBound.{heaviest, packingFuel, Weighable}
+use Rattle.subgradient.specs.Subgradient.{heaviest}
+use Rattle.capacity_bound.specs.CapacityBound.{packingFuel, Weighable}
 use Rattle.capacity_bound.proofs.Weighted.{weight-among}
 use Rattle.capacity_bound.proofs.Tightening.{tops-start, Tightening, tightening-start, tightening-topped, tightening-next, tightening-end}
 use Rattle.capacity_bound.proofs.weigh.Statement.{statement}

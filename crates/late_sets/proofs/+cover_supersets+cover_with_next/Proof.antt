@@ -17,7 +17,7 @@ use Rattle.late_sets.proofs.+cover_supersets+cover_with_next.Lts-cover_
 use Rattle.late_sets.proofs.cover_with_next.Reads as cover-with-next
 use Rattle.late_sets.proofs.cover_with_next.Kinds as cover-with-next-kinds
 use Rattle.late_sets.proofs.+cover_supersets+cover_with_next.Lts-cover_with_next as cover-with-next-lts
-use Rattle.late_sets.proofs.with_next.Reads as with-next-reads
+use Rattle.subsets.proofs.with_next.Reads as with-next-reads
 use Rattle.late_sets.proofs.+cover_supersets+cover_with_next.{statement}
 use Rattle.late_sets.proofs.+cover_supersets+cover_with_next.Tie.{close}
 
