@@ -2,7 +2,7 @@
  *
  * Every buffer belongs to the caller. No function keeps a pointer, allocates, or reads beyond the length it is given. Only placement_search and
  * placement_judge_tasks write, each only into the buffer that it is lent for that; that buffer must not overlap the file or the placement.
- * A pointer is valid for its length, also where that is 0. Each call returns. placement_search needs half a megabyte of stack, a thread's too.
+ * A pointer is valid for its length, also where that is 0. Each call returns. placement_search needs 600 kB of stack, a thread's too.
  *
  * Where 64 bits come back, a refusal's number (as in the README) is answer >> 32, its place (uint32_t)answer.
  */
