@@ -7,14 +7,14 @@ use lib.Dec.{T}
 use Rattle.finite.specs.Finite.{someBelow, sumTo, firstFrom, firstBelow}
 use Rattle.mask.specs.Mask.{has, below}
 use Rattle.lcm.specs.Lcm.{lcm, lcmTo}
-use Rattle.wire.specs.Wire.{little, number, bytes, markAt}
+use Rattle.wire.specs.Wire.{little, number, bytes, markAt, pieces}
 use Rattle.layout.specs.Format.{kindAt, bytesOf, placeIn}
 use Rattle.verdict.specs.Faults.{verdict, recordVerdict, contentVerdict, hyperperiodTooLarge, messageRepeated, periodsDiffer, priorityUsed, notInFile, badPair, badGroup, badResidence, outOfRange, tooMany, outOfOrder, recordCut, markCut}
 use Rattle.table.specs.declared.Table.{Table}
 use Rattle.table.specs.declared.Outcome.the-variants.{Readable}
 use Rattle.table.specs.Scan.{scanOf, scanFrom, atEnd, missing}
 use Rattle.table.specs.Table.{column, readOf, tableOf, emptyTable}
-use Rattle.table.specs.Encode.{encode, joinTo, encodeRecord, fieldBytes}
+use Rattle.table.specs.Encode.{encode, encodeRecord, fieldBytes}
 use Rattle.table.specs.Sound.{Sound}
 use Rattle.table.proofs.Sound.{read-sound}
 use Rattle.table.proofs.EncodedBytes.{encode-bytes}
@@ -70,7 +70,7 @@ row a b = (a, b)
 computed : AllComputed cases
 unfolding judgeOf judgedOn firstUnknown responsesOf firstBroken checkRule firstBelow someBelow sumTo firstFrom elsewhere apart together somePair residenceBroken coResidenceBroken exclusionBroken
     memoryBroken memoryOn utilisationBroken loadOn networkBroken traffic service scheduled pending unfinished response leastSolution demand ceil readOf tableOf emptyTable column scanOf scanFrom atEnd
-    missing encode joinTo encodeRecord fieldBytes verdict recordVerdict contentVerdict hyperperiodTooLarge messageRepeated periodsDiffer priorityUsed notInFile badPair badGroup badResidence outOfRange
+    missing encode pieces encodeRecord fieldBytes verdict recordVerdict contentVerdict hyperperiodTooLarge messageRepeated periodsDiffer priorityUsed notInFile badPair badGroup badResidence outOfRange
     tooMany outOfOrder kindAt bytesOf placeIn recordCut markCut little number bytes markAt lcm lcmTo
 computed =
     row (refl, (refl, ((omega arith, refl), ((omega arith, refl), ((omega arith, refl), tt)))))

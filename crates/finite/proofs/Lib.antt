@@ -4,3 +4,5 @@ pub mod Some
 pub mod First
 pub mod Search
 pub mod Stored
+pub mod Tabulate
+pub mod SumLoop

@@ -1,5 +1,6 @@
--- Sums, tests and searches over the numbers below n. Assumes nothing.
+-- Sums, tests, searches and lists over the numbers below n. Assumes nothing.
 use mathlib.Core.Bool.{Bool, true, false, _||_}
+use mathlib.Core.List.{List, [], _∷_}
 use Prim.Native.Nat.{ℕ, zero, suc, _+_}
 
 -- x where the test passes, else 0
@@ -26,3 +27,8 @@ firstFrom (suc n) p x = elim (p x) [ true ↦ x | false ↦ firstFrom n p (suc x
 unfoldable pub firstBelow : ℕ → (ℕ → Bool) → ℕ
 firstBelow zero p = 0
 firstBelow (suc n) p = elim (p 0) [ true ↦ 0 | false ↦ suc (firstBelow n (λ k. p (suc k))) ]
+
+-- the list f 0, .., f (n - 1)
+unfoldable pub tabulate : ℕ → (ℕ → ℕ) → List ℕ
+tabulate zero f = []
+tabulate (suc n) f = f 0 ∷ tabulate n (λ i. f (suc i))

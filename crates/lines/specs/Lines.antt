@@ -2,8 +2,9 @@
 use mathlib.Core.Bool.{cond}
 use mathlib.Core.List.{List, [], _++_}
 use Prim.Native.Nat.{ℕ}
+use Rattle.wire.specs.Wire.{pieces}
 use Rattle.mask.specs.Mask.{has}
-use Rattle.text.specs.Text.{ascii, decimal, pieces}
+use Rattle.text.specs.Text.{ascii, decimal}
 
 -- a word and a number
 abbrev pub item : List ℕ → ℕ → List ℕ

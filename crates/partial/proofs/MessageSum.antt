@@ -5,7 +5,7 @@ use mathlib.Core.List.{List}
 use Prim.Native.Nat.{ℕ, _+_, _<_}
 use native.Mathlib.Omega.{arith}
 use lib.ListN.{getD}
-use Rattle.rules.proofs.SumLoop.{Summing, summing-in, summing-out}
+use Rattle.finite.proofs.SumLoop.{Summing, summing-in, summing-out}
 use Rattle.rows.specs.Rows.{senderRow, receiverRow, amountRow}
 use Rattle.rows.proofs.Laws.{amounts-bound}
 use Rattle.table.specs.declared.Table.{Table}

@@ -11,7 +11,7 @@ use Rattle.table.specs.Sound.{Sound}
 use Rattle.rules.specs.Placement.{andTask}
 use Rattle.rules.specs.Rules.{Keeps, memoryOn, loadOn, traffic}
 use Rattle.rules.specs.Sets.{standing}
-use Rattle.rows.specs.Rows.{loadsOf, amountsOf, exclusionsOf, partnersOf, residenceRow, memoryRow, loadRow, exclusionRow, partnerRow, weightsIn, senderRow, receiverRow, amountRow}
+use Rattle.rows.specs.Rows.{loadsOf, amountsOf, exclusionsOf, partnersOf, residenceRow, memoryRow, loadRow, exclusionRow, partnerRow, senderRow, receiverRow, amountRow}
 use Rattle.partial.specs.declared.State.{State}
 use Rattle.partial.specs.declared.Sizes.{Sizes}
 use Rattle.partial.specs.declared.Site.{Site}
@@ -27,7 +27,6 @@ pub record Lent (t : Table) (sizes : Sizes) (rows links : List (List ℕ)) : Typ
   pub same-loads : loadRow rows ≡ loadsOf t
   pub same-exclusions : exclusionRow rows ≡ exclusionsOf t
   pub same-partners : partnerRow rows ≡ partnersOf t
-  pub light : (k : ℕ) → getD (weightsIn rows 2) k 0 < 4294967296
   pub same-sender : senderRow links ≡ t .messages .sender
   pub same-receiver : receiverRow links ≡ t .messages .receiver
   pub same-amounts : amountRow links ≡ amountsOf t

@@ -4,13 +4,13 @@ use mathlib.Core.List.{List, _++_}
 use Prim.Native.Nat.{ℕ, _+_, _-_, _*_, _/_}
 use lib.Dec.{eqb}
 use lib.ListN.{length, getD, take, drop}
-use Rattle.wire.specs.Wire.{markAt}
+use Rattle.wire.specs.Wire.{markAt, pieces}
 use Rattle.table.specs.declared.Table.{Table}
 use Rattle.rules.specs.Placement.{placed}
 use Rattle.rules.specs.Rules.{loadOn}
 use Rattle.judge.specs.Judge.{judgeOf}
 use Rattle.answer.specs.Answer.{maskAt}
-use Rattle.text.specs.Text.{ascii, pieces}
+use Rattle.text.specs.Text.{ascii}
 use Rattle.lines.specs.Lines.{taskLine, loadLine, conflictLine}
 
 -- 01: task lines give task, processor, response and deadline

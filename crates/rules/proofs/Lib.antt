@@ -5,5 +5,4 @@ pub mod Step
 pub mod Bounds
 pub mod SetsLoop
 pub mod Sets
-pub mod SumLoop
 pub mod Placed

@@ -10,6 +10,5 @@ pub mod InTime
 pub mod LateSets
 pub mod Says
 pub mod Shares
-pub mod Tabulate
 pub mod TasksOfArrays
 pub mod ResponseLoop

@@ -18,7 +18,7 @@ use Rattle.schedule.specs.Arrays.{InLimits, SmallShares, higherThan, sha
 use Rattle.mask.proofs.Tests.{and-left, and-right}
 use Rattle.schedule.proofs.Only.{only-in}
 use Rattle.schedule.proofs.LateSets.{late-set}
-use Rattle.schedule.proofs.Tabulate.{getD-tabulate}
+use Rattle.finite.proofs.Tabulate.{getD-tabulate}
 
 module _ {n : ℕ} {rows : List (List ℕ)} {set : ℕ} (a : InLimits n rows set) where
   work-in-period : (i : ℕ) → i < n → getD (workRow rows) i 0 ≤ getD (periodRow rows) i 0

@@ -98,7 +98,6 @@ lends-table h s same e l g = record {
     same-loads = g .kept 1 (λ i. omega arith) (λ i. omega arith) (λ i. omega arith) ∙ rw e refl;
     same-exclusions = g .kept 4 (λ i. omega arith) (λ i. omega arith) (λ i. omega arith) ∙ rw e refl;
     same-partners = g .kept 5 (λ i. omega arith) (λ i. omega arith) (λ i. omega arith) ∙ rw e refl;
-    light = g .light;
     same-sender = rw l refl;
     same-receiver = rw l refl;
     same-amounts = rw l refl;

@@ -2,10 +2,9 @@
 use mathlib.Core.Path.{_≡_}
 use mathlib.Core.Logic.{_≢_}
 use mathlib.Core.List.{List, []}
-use Prim.Native.Nat.{ℕ, _<_}
+use Prim.Native.Nat.{ℕ}
 use lib.ListN.{getD}
 
--- rows 3, 6 and 7 guide the search, and all others are as they were; row 3 has weights that fit 32 bits
+-- rows 3, 6 and 7 guide the search, and all others are as they were
 pub record Kept (old new : List (List ℕ)) : Type 0 where
-  pub light : (k : ℕ) → getD (getD new 3 []) k 0 < 4294967296
   pub kept : (i : ℕ) → i ≢ 3 → i ≢ 6 → i ≢ 7 → getD new i [] ≡ getD old i []

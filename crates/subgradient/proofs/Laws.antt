@@ -4,20 +4,19 @@ use mathlib.Core.Bool.{Bool, true, false, _&&_, _||_, cond}
 use mathlib.Core.List.{List}
 use Prim.Native.Nat.{ℕ, suc, _+_, _*_, _/_, _≤_, _<_}
 use native.Mathlib.Omega.{arith}
-use native.Mathlib.Nat.{mul-le-mul, min-le-right}
+use native.Mathlib.Nat.{mul-le-mul}
 use native.Mathlib.Numerals.{add-one}
 use borrow.Author.Tests.{lt-ltb, ne-eqb}
 use lib.Bits.{bitAnd}
 use lib.Dec.{T, eqb, ltb, ltb→lt}
 use lib.ListN.{getD, replicate}
-use Rattle.finite.specs.Finite.{only, sumTo}
+use Rattle.finite.specs.Finite.{only, sumTo, tabulate}
 use Rattle.finite.proofs.Only.{only-le, sum-bound}
 use Rattle.mask.specs.Mask.{has, below, maskOf}
 use Rattle.mask.proofs.Laws.{has-and, has-mask, has-below}
 use Rattle.mask.proofs.Tests.{and-left, and-right}
-use Rattle.schedule.specs.Arrays.{tabulate}
-use Rattle.schedule.proofs.Tabulate.{getD-tabulate, tabulate-zero}
-use Rattle.subgradient.specs.Subgradient.{AtMost, countOf, countedOf, countsOf, directionFrom, directionOf, distance, normOf, totalOf, strideOf, limited, movedOf, offScale, scaledOf, rescaledOf, stepOf, stepped, adaptOf}
+use Rattle.finite.proofs.Tabulate.{getD-tabulate, tabulate-zero}
+use Rattle.subgradient.specs.Subgradient.{AtMost, countOf, countedOf, countsOf, directionFrom, directionOf, distance, normOf, totalOf, offScale, scaledOf, rescaledOf, stepOf, stepped, adaptOf}
 use Rattle.subgradient.proofs.Rows.{tabulate-below}
 
 -- ---- the tasks of any mask
@@ -93,20 +92,6 @@ rescaled-on weights left total e o = rw (rw e at o) refl
 
 -- ---- weights below 2^28
 
-either-row : (b : Bool) {limit : ℕ} {x y : List ℕ} → AtMost limit x → AtMost limit y → AtMost limit (cond b x y)
-either-row true p q = p
-either-row false p q = q
-
-moved-light : (weights direction : List ℕ) (left stride norm : ℕ) → AtMost 268435455 weights → AtMost 268435455 (movedOf weights direction left stride norm)
-moved-light weights direction left stride norm w = at-most 268435455 _ (λ k l. go (has left k) _ (w .each k l))
-  where
-    go : (b : Bool) (x : ℕ) {y : ℕ} → y ≤ 268435455 → cond b (limited x) y ≤ 268435455
-    go true x p = min-le-right x 268435455
-    go false x p = p
-
-rescaled-light : {weights : List ℕ} (left : ℕ) → AtMost 268435455 weights → AtMost 268435455 (rescaledOf weights left)
-rescaled-light {weights} left w = either-row (offScale (totalOf weights left)) (at-most 268435455 _ (λ k l. min-le-right (getD weights k 0 * 4194304 / totalOf weights left) 268435455)) w
-
 -- ---- a step
 
 module _ (weights before : List ℕ) (first : Bool) (sets : List ℕ) (m left gap alpha : ℕ) where
@@ -125,8 +110,3 @@ module _ (weights before : List ℕ) (first : Bool) (sets : List ℕ) (m left ga
   pub adapt-direction : AtMost 2048 before → m ≤ 8 → AtMost 2048 (adaptOf weights before first sets m left gap alpha .direction)
   unfolding adaptOf
   adapt-direction b l = direction-small first before (countsOf sets m) b (counts-small sets m 8 l)
-
-  -- light weights stay light
-  pub adapt-light : AtMost 268435455 weights → AtMost 268435455 (adaptOf weights before first sets m left gap alpha .weights)
-  unfolding adaptOf stepped
-  adapt-light w = either-row (eqb (normOf next left) 0) w (rescaled-light left (moved-light weights next left (strideOf gap (totalOf weights left) alpha) (normOf next left) w))

@@ -8,11 +8,11 @@ use native.Mathlib.Omega.{arith}
 use borrow.Author.Tests.{eq-eqb, ne-eqb, lt-ltb, le-ltb}
 use lib.Dec.{T, ltb, lt→ltb, ltb→lt}
 use lib.ListN.{length, getD, set, replicate}
+use Rattle.finite.specs.Finite.{tabulate}
 use Rattle.mask.specs.Mask.{has, removeOf}
 use Rattle.mask.proofs.Laws.{has-zero, has-remove}
 use Rattle.mask.proofs.Tests.{same-test}
-use Rattle.schedule.specs.Arrays.{tabulate}
-use Rattle.schedule.proofs.Tabulate.{tabulate-set, tabulate-zero}
+use Rattle.finite.proofs.Tabulate.{tabulate-set, tabulate-zero}
 
 pub tabulate-below : (m : ℕ) (f g : ℕ → ℕ) → ((k : ℕ) → k < m → f k ≡ g k) → tabulate m f ≡ tabulate m g
 unfolding tabulate

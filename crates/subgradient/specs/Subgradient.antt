@@ -4,9 +4,8 @@ use mathlib.Core.List.{List}
 use Prim.Native.Nat.{ℕ, _+_, _-_, _*_, _/_, _≤_, _<_, min}
 use lib.Dec.{eqb, ltb}
 use lib.ListN.{getD}
-use Rattle.finite.specs.Finite.{only, sumTo}
+use Rattle.finite.specs.Finite.{only, sumTo, tabulate}
 use Rattle.mask.specs.Mask.{has, sumOver}
-use Rattle.schedule.specs.Arrays.{tabulate}
 use Rattle.subgradient.specs.declared.Adapted.{Adapted}
 
 -- no number of the 24 tasks is above the limit

@@ -5,7 +5,7 @@ use Prim.Native.Nat.{ℕ, zero, suc, _≤_, _<_}
 use native.Mathlib.Omega.{arith}
 use lib.ListN.{length, take, drop, getD}
 use lib.Seq.{take-length}
-use Rattle.wire.specs.Wire.{Bytes}
+use Rattle.wire.specs.Wire.{Bytes, pieces}
 use Rattle.layout.specs.declared.Kind.{Kind}
 use Rattle.layout.specs.declared.Kind.the-variants.{Network, Processor, Task, CoResident, Exclusive, Message}
 use Rattle.layout.specs.declared.Progress.{Progress}
@@ -15,7 +15,7 @@ use Rattle.layout.proofs.Places.{place-first, place-next, place-start, place-en
 use Rattle.verdict.proofs.Taken.{kind-marked}
 use Rattle.table.specs.declared.Outcome.the-variants.{Readable}
 use Rattle.table.specs.Table.{columnOf, tableOf, readOf}
-use Rattle.table.specs.Encode.{countsOf, valuesOf, encodeRecord, joinTo, recordsTo, kindsTo, encode}
+use Rattle.table.specs.Encode.{countsOf, valuesOf, encodeRecord, recordsTo, kindsTo, encode}
 use Rattle.table.proofs.Columns.{value}
 use Rattle.table.proofs.Fine.{Fine}
 use Rattle.table.proofs.Ended.{present, read-whole}
@@ -45,7 +45,7 @@ module _ {s : List ℕ} {x : Progress} (b : Bytes s) (f : Fine s (length s) x) (
 
   -- the records of a kind, behind what stands before them
   records-read : (k : Kind) (p : List ℕ) → p ≡ take (place x k 0) s → (n : ℕ) → n ≤ count x k → p ++ recordsTo (tableOf s x) k n ≡ take (place x k n) s
-  unfolding joinTo
+  unfolding pieces
   records-read k p e zero l = append-nil p ∙ e
   records-read k p e (suc n) l =
       sym (append-assoc p (recordsTo (tableOf s x) k n) _)
@@ -53,7 +53,7 @@ module _ {s : List ℕ} {x : Progress} (b : Bytes s) (f : Fine s (length s) x) (
       ∙ ap (λ (m : ℕ). take m s) (place-next x k n)
 
   kinds-read : (n : ℕ) → n ≤ length kinds → kindsTo (tableOf s x) n ≡ take (bytesOf (count x) n) s
-  unfolding joinTo
+  unfolding pieces
   kinds-read zero l = ap (λ (m : ℕ). take m s) (sym (place-first x) ∙ place-start x 0 (omega arith))
   kinds-read (suc n) l =
       let k = inOrder n in

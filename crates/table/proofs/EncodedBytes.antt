@@ -4,12 +4,12 @@ use Prim.Native.Nat.{ℕ, zero, suc, _/_, _<_}
 use native.Mathlib.Omega.{arith}
 use lib.Dec.{lit<}
 use native.Mathlib.Nat.{mod-lt}
-use Rattle.wire.specs.Wire.{bytes, Bytes}
+use Rattle.wire.specs.Wire.{bytes, Bytes, pieces}
 use Rattle.layout.specs.declared.Kind.{Kind}
 use Rattle.layout.specs.Format.{row, inOrder}
 use Rattle.layout.proofs.EachKind.{mark-two, mark-bytes}
 use Rattle.table.specs.declared.Table.{Table}
-use Rattle.table.specs.Encode.{fieldBytes, encodeRecord, joinTo, encode}
+use Rattle.table.specs.Encode.{fieldBytes, encodeRecord, encode}
 
 data Small : List ℕ → Type 0 where
   none : Small []
@@ -42,8 +42,8 @@ record-small : (k : Kind) (vs : List ℕ) → Small (encodeRecord k vs)
 unfolding encodeRecord
 record-small k vs = both (mark-small k) (fields-small (row k .widths) vs)
 
-join-small : (n : ℕ) (f : ℕ → List ℕ) → ((j : ℕ) → Small (f j)) → Small (joinTo n f)
-unfolding joinTo
+join-small : (n : ℕ) (f : ℕ → List ℕ) → ((j : ℕ) → Small (f j)) → Small (pieces n f)
+unfolding pieces
 join-small zero f h = none
 join-small (suc n) f h = both (join-small n f h) (h n)
 

@@ -6,6 +6,7 @@ use native.Mathlib.Omega.{arith}
 use native.Mathlib.Nat.{not-suc-le-zero}
 use native.Mathlib.Decide.{ℕ-discrete}
 use lib.ListN.{length, getD, length-append}
+use Rattle.wire.specs.Wire.{pieces}
 use Rattle.layout.specs.declared.Kind.{Kind}
 use Rattle.layout.specs.declared.Kind.the-variants.{Network, Processor, Task, CoResident, Exclusive, Message}
 use Rattle.layout.specs.declared.Progress.{Progress}
@@ -13,7 +14,7 @@ use Rattle.layout.specs.Format.{row, kinds, inOrder, count, bytesOf, place, end
 use Rattle.layout.proofs.EachKind.{order-below, kind-of}
 use Rattle.layout.proofs.Places.{place-first, place-next, place-zero, place-start, place-end}
 use Rattle.table.specs.declared.Table.{Table}
-use Rattle.table.specs.Encode.{countsOf, valuesOf, joinTo, recordsTo, kindsTo, encodeRecord, encode}
+use Rattle.table.specs.Encode.{countsOf, valuesOf, recordsTo, kindsTo, encodeRecord, encode}
 use Rattle.table.specs.Sound.{Sound}
 use Rattle.table.proofs.RecordFields.{Fit, none, more, Stands, record-length, stands-field}
 
@@ -33,10 +34,10 @@ values-fit h Message j = let m = h .messages in more (m .sender .fits j) (more (
 
 -- f j stands behind the j before it
 Split : (ℕ → List ℕ) → ℕ → ℕ → Type 0
-Split f n j = (q : List ℕ) × (joinTo n f ≡ joinTo j f ++ (f j ++ q))
+Split f n j = (q : List ℕ) × (pieces n f ≡ pieces j f ++ (f j ++ q))
 
 join-split : (f : ℕ → List ℕ) (n j : ℕ) → j < n → Split f n j
-unfolding Split joinTo
+unfolding Split pieces
 join-split f zero j l = absurd (not-suc-le-zero l)
 join-split f (suc n) j l = go (ℕ-discrete j n) (join-split f n j)
   where
@@ -46,7 +47,7 @@ join-split f (suc n) j l = go (ℕ-discrete j n) (join-split f n j)
 
 module _ {t : Table} (h : Sound t) where
   records-length : (k : Kind) (n : ℕ) → place (whole t) k 0 + length (recordsTo t k n) ≡ place (whole t) k n
-  unfolding joinTo
+  unfolding pieces
   records-length k zero = omega arith
   records-length k (suc n) =
       omega (
@@ -58,7 +59,7 @@ module _ {t : Table} (h : Sound t) where
       )
 
   kinds-length : (n : ℕ) → n ≤ length kinds → length (kindsTo t n) ≡ bytesOf (count (whole t)) n
-  unfolding joinTo
+  unfolding pieces
   kinds-length zero l = sym (place-first (whole t)) ∙ place-start (whole t) 0 (omega arith)
   kinds-length (suc n) l =
       let k = inOrder n in

@@ -1,8 +1,8 @@
 -- The file of a table: its records, in the format's order.
 use mathlib.Core.List.{List, [], _∷_, _++_}
-use Prim.Native.Nat.{ℕ, zero, suc}
+use Prim.Native.Nat.{ℕ}
 use lib.ListN.{length, getD}
-use Rattle.wire.specs.Wire.{bytes}
+use Rattle.wire.specs.Wire.{bytes, pieces}
 use Rattle.layout.specs.declared.Kind.{Kind}
 use Rattle.layout.specs.declared.Kind.the-variants.{Network, Processor, Task, CoResident, Exclusive, Message}
 use Rattle.layout.specs.Format.{row, kinds, inOrder}
@@ -38,18 +38,13 @@ valuesOf t CoResident j = getD (t .co .mask) j 0 ∷ []
 valuesOf t Exclusive j = getD (t .ex .mask) j 0 ∷ []
 valuesOf t Message j = getD (t .messages .sender) j 0 ∷ getD (t .messages .receiver) j 0 ∷ getD (t .messages .amount) j 0 ∷ []
 
--- f 0, .., f (n - 1), one behind the other
-unfoldable pub joinTo : ℕ → (ℕ → List ℕ) → List ℕ
-joinTo zero f = []
-joinTo (suc n) f = joinTo n f ++ f n
-
 -- the first n records of a kind
 abbrev pub recordsTo : Table → Kind → ℕ → List ℕ
-recordsTo t k n = joinTo n (λ j. encodeRecord k (valuesOf t k j))
+recordsTo t k n = pieces n (λ j. encodeRecord k (valuesOf t k j))
 
 -- all records of the first n kinds
 abbrev pub kindsTo : Table → ℕ → List ℕ
-kindsTo t n = joinTo n (λ i. recordsTo t (inOrder i) (getD (countsOf t) (row (inOrder i) .order) 0))
+kindsTo t n = pieces n (λ i. recordsTo t (inOrder i) (getD (countsOf t) (row (inOrder i) .order) 0))
 
 unfoldable pub encode : Table → List ℕ
 encode t = kindsTo t (length kinds)

@@ -9,9 +9,9 @@ use native.Mathlib.Decide.{decLt}
 use borrow.Author.Tests.{lt-ltb, le-ltb}
 use lib.Dec.{ltb}
 use lib.ListN.{length, length-append}
-use Rattle.wire.specs.Wire.{Put}
+use Rattle.wire.specs.Wire.{Put, pieces}
 use Rattle.wire.proofs.Put.{put-nothing, put-then}
-use Rattle.text.specs.Text.{digits, decimal, pieces}
+use Rattle.text.specs.Text.{digits, decimal}
 
 -- one piece more of a row
 pub put-more : (f : ℕ → List ℕ) {old mid new : List ℕ} {at e g n : ℕ} → Put old at (pieces n f) mid e → Put mid e (f n) new g → Put old at (pieces (n + 1) f) new g

@@ -20,8 +20,3 @@ digits (suc most) x = cond (ltb x 10) ((48 + x) ∷ []) (digits most (x / 10) ++
 -- x in decimal: a number of 64 bits has at most 20 digits
 abbrev pub decimal : ℕ → List ℕ
 decimal x = digits 20 x
-
--- the pieces of 0 to n - 1, one after another
-unfoldable pub pieces : ℕ → (ℕ → List ℕ) → List ℕ
-pieces zero f = []
-pieces (suc n) f = pieces n f ++ f n

@@ -8,12 +8,12 @@ use native.Mathlib.Numerals.{add-one}
 use borrow.Author.Tests.{lt-ltb, le-ltb}
 use lib.Dec.{ltb, lt→ltb, ltb→lt}
 use lib.ListN.{getD, set, replicate}
-use Rattle.finite.specs.Finite.{only, sumTo}
+use Rattle.finite.specs.Finite.{only, sumTo, tabulate}
 use Rattle.mask.specs.Mask.{insertOf}
 use Rattle.mask.proofs.Laws.{mask-insert, mask-skip}
-use Rattle.schedule.specs.Arrays.{tabulate, higherThan, higherOf}
+use Rattle.schedule.specs.Arrays.{higherThan, higherOf}
 use Rattle.schedule.proofs.Only.{only-in, only-same}
-use Rattle.schedule.proofs.Tabulate.{tabulate-set, tabulate-zero}
+use Rattle.finite.proofs.Tabulate.{tabulate-set, tabulate-zero}
 
 -- one task's mask, with the tasks below j
 pub record Row (n : ℕ) (p : List ℕ) (i row j : ℕ) : Type 0 where

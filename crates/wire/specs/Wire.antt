@@ -45,3 +45,8 @@ pub record Put (old : List ℕ) (at : ℕ) (piece new : List ℕ) (end : ℕ) : 
   pub holds : new ≡ laid at piece old
   pub ends : end ≡ at + length piece
   pub room : end ≤ length old
+
+-- the pieces of 0 to n - 1, one after another
+unfoldable pub pieces : ℕ → (ℕ → List ℕ) → List ℕ
+pieces zero f = []
+pieces (suc n) f = pieces n f ++ f n

@@ -6,7 +6,7 @@ use native.Mathlib.Omega.{arith}
 use borrow.Author.Needs.{needs}
 use lib.ListN.{getD}
 use Rattle.mask.specs.Mask.{has}
-use Rattle.rules.proofs.SumLoop.{Summing, summing-start, summing-in, summing-out, summing-end}
+use Rattle.finite.proofs.SumLoop.{Summing, summing-start, summing-in, summing-out, summing-end}
 use Rattle.branching.proofs.choices.Statement.{statement}
 use Rattle.branching.proofs.choices.Tie as tie
 

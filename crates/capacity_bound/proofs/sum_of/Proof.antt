@@ -5,7 +5,7 @@ use Prim.Native.Nat.{_-_}
 use native.Mathlib.Omega.{arith}
 use borrow.Author.Needs.{needs}
 use lib.ListN.{getD}
-use Rattle.rules.proofs.SumLoop.{Summing, summing-start, summing-in, summing-end}
+use Rattle.finite.proofs.SumLoop.{Summing, summing-start, summing-in, summing-end}
 use Rattle.subgradient.specs.Subgradient.{heaviest}
 use Rattle.capacity_bound.proofs.sum_of.Statement.{statement}
 use Rattle.capacity_bound.proofs.sum_of.Tie as tie

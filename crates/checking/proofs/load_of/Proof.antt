@@ -10,7 +10,7 @@ use Rattle.mask.specs.Mask.{has, sumOver}
 use Rattle.load.specs.declared.Load.{Load}
 use Rattle.rules.specs.Sets.{loadOf}
 use Rattle.load.proofs.Work.{work-le}
-use Rattle.rules.proofs.SumLoop.{Summing, summing-start, summing-in, summing-out, summing-end}
+use Rattle.finite.proofs.SumLoop.{Summing, summing-start, summing-in, summing-out, summing-end}
 use Rattle.checking.proofs.load_of.Statement.{statement}
 use Rattle.checking.proofs.load_of.Tie as tie
 

@@ -7,7 +7,7 @@ use borrow.Author.Needs.{needs}
 use lib.ListN.{getD}
 use Rattle.mask.specs.Mask.{has, sumOver}
 use Rattle.rules.specs.Sets.{memoryOf}
-use Rattle.rules.proofs.SumLoop.{Summing, summing-start, summing-in, summing-out, summing-end}
+use Rattle.finite.proofs.SumLoop.{Summing, summing-start, summing-in, summing-out, summing-end}
 use Rattle.checking.proofs.memory_of.Statement.{statement}
 use Rattle.checking.proofs.memory_of.Tie as tie
 

@@ -6,7 +6,7 @@ use native.Mathlib.Omega.{arith}
 use borrow.Author.Needs.{needs}
 use Rattle.rules.specs.Rules.{crosses, amountOf, traffic}
 use Rattle.rules.specs.Sets.{standing}
-use Rattle.rules.proofs.SumLoop.{Summing, summing-start, summing-in, summing-out, summing-end}
+use Rattle.finite.proofs.SumLoop.{Summing, summing-start, summing-in, summing-out, summing-end}
 use Rattle.checking.proofs.traffic_of.Statement.{statement}
 use Rattle.checking.proofs.traffic_of.Tie as tie
 

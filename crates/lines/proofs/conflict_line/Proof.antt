@@ -4,8 +4,7 @@ use Prim.Native.Nat.{_+_, _-_, _*_, _≤_}
 use native.Mathlib.Omega.{arith}
 use borrow.Author.Needs.{needs}
 use lib.ListN.{length}
-use Rattle.wire.specs.Wire.{Put}
-use Rattle.text.specs.Text.{pieces}
+use Rattle.wire.specs.Wire.{Put, pieces}
 use Rattle.wire.proofs.Put.{put-then}
 use Rattle.text.proofs.Laws.{put-none, put-more}
 use Rattle.lines.specs.Lines.{member}

@@ -2,7 +2,7 @@
 use mathlib.Core.Logic.{⊎-elim}
 use Prim.Native.Nat.{_-_}
 use borrow.Author.Needs.{needs}
-use Rattle.rules.proofs.SumLoop.{summing-start, summing-end}
+use Rattle.finite.proofs.SumLoop.{summing-start, summing-end}
 use Rattle.partial.proofs.MessageSum.{MessageSum, message-fits, message-next}
 use Rattle.network_bound.specs.NetworkBound.{mustCross, crossingOf}
 use Rattle.network_bound.proofs.crossing.Statement.{statement}

@@ -4,7 +4,7 @@ use mathlib.Core.Path.{refl}
 use Prim.Native.Nat.{_-_}
 use native.Mathlib.Omega.{arith}
 use borrow.Author.Needs.{needs}
-use Rattle.rules.proofs.SumLoop.{Summing, summing-start, summing-in, summing-out, summing-end}
+use Rattle.finite.proofs.SumLoop.{Summing, summing-start, summing-in, summing-out, summing-end}
 use Rattle.pairs.specs.Pairs.{apart, strangersOf}
 use Rattle.pairs.proofs.strangers.Statement.{statement}
 use Rattle.pairs.proofs.strangers.Tie as tie

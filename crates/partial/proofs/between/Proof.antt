@@ -3,7 +3,7 @@ use mathlib.Core.Logic.{⊎-elim}
 use Prim.Native.Nat.{_-_}
 use native.Mathlib.Omega.{arith}
 use borrow.Author.Needs.{needs}
-use Rattle.rules.proofs.SumLoop.{summing-start, summing-end}
+use Rattle.finite.proofs.SumLoop.{summing-start, summing-end}
 use Rattle.partial.specs.Tests.{joins, between}
 use Rattle.partial.proofs.MessageSum.{MessageSum, message-fits, message-next}
 use Rattle.partial.proofs.between.Statement.{statement}

@@ -11,7 +11,7 @@ use Rattle.load.specs.declared.Load.{Load}
 use Rattle.rules.specs.Placement.{placed}
 use Rattle.rules.specs.Rules.{loadOn}
 use Rattle.load.proofs.Work.{work-le}
-use Rattle.rules.proofs.SumLoop.{Summing, summing-start, summing-in, summing-out, summing-end}
+use Rattle.finite.proofs.SumLoop.{Summing, summing-start, summing-in, summing-out, summing-end}
 use Rattle.report.proofs.load_on.Statement.{statement}
 use Rattle.report.proofs.load_on.Tie as tie
 

@@ -5,8 +5,7 @@ use native.Mathlib.Omega.{arith}
 use borrow.Author.Needs.{needs}
 use lib.ListN.{length}
 use Rattle.rules.proofs.Bounds.{some-tick}
-use Rattle.wire.specs.Wire.{Put}
-use Rattle.text.specs.Text.{pieces}
+use Rattle.wire.specs.Wire.{Put, pieces}
 use Rattle.text.proofs.Laws.{put-none, put-more}
 use Rattle.lines.specs.Lines.{loadLine}
 use Rattle.report.specs.Report.{thousandths}

@@ -4,7 +4,7 @@ use mathlib.Core.Bool.{true}
 use Prim.Native.Nat.{_-_}
 use borrow.Author.Needs.{needs}
 use lib.ListN.{getD}
-use Rattle.rules.proofs.SumLoop.{Summing, summing-start, summing-in, summing-end}
+use Rattle.finite.proofs.SumLoop.{Summing, summing-start, summing-in, summing-end}
 use Rattle.rows.specs.Rows.{senderRow, receiverRow, amountRow}
 use Rattle.static_order.specs.StaticOrder.{messageWeight, messagesWeight}
 use Rattle.static_order.proofs.messages_weight.Statement.{statement}
