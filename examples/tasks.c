@@ -1,4 +1,4 @@
-/* Judges a placement of the tasks in the table file on standard input, and prints the judgement and the response of each task.
+/* Judges a placement of the tasks in the table file on standard input, and prints the judgement, and the response and the margin of each task.
  * The arguments are the processors of the tasks, in the tasks' order.
  */
 #include <stdint.h>
@@ -9,7 +9,7 @@
 
 /* No file that is longer can be read, and no file has more than 24 tasks. There is room for one processor more, so that too many are refused. */
 static uint8_t file[8192], placement[25];
-static int32_t out[26];
+static int32_t out[50];
 
 /* No table has a processor 255. */
 static uint8_t processor(const char *argument)
@@ -26,13 +26,15 @@ static void print_judgement(int32_t number, int32_t concerned)
         printf("rule %d is broken, number concerned %d\n", (int)number, (int)concerned);
 }
 
-static void print_task(size_t task, int32_t response)
+static void print_task(size_t task, int32_t response, int32_t margin)
 {
     printf("task %zu on %d ", task, placement[task]);
-    if (response == 0)
-        printf("late\n");
+    if (margin == PLACEMENT_BEYOND)
+        printf("late beyond its period\n");
+    else if (margin < 0)
+        printf("late by %d\n", (int)-margin);
     else
-        printf("response %d\n", (int)response);
+        printf("response %d margin %d\n", (int)response, (int)margin);
 }
 
 int main(int argc, char **argv)
@@ -46,7 +48,7 @@ int main(int argc, char **argv)
         return 0;
     }
     print_judgement(out[0], out[1]);
-    for (size_t task = 0; task + 2 < count; task++)
-        print_task(task, out[2 + task]);
+    for (size_t task = 0; task < tasks; task++)
+        print_task(task, out[2 + task], out[2 + tasks + task]);
     return 0;
 }

@@ -27,13 +27,18 @@ uint64_t placement_conflict(const uint8_t *file, size_t length, uint32_t mask);
  */
 uint16_t placement_judge(const uint8_t *file, size_t length, const uint8_t *placement, size_t placement_length);
 
-/* Judges a placement as placement_judge does, and puts the judgement and the response of each task into out, which must not overlap the file or
- * the placement. For n tasks it takes n + 2 numbers:
+/* Stands for a margin that is not known, as the worst response is beyond the period. It lies far below every margin that is known. */
+#define PLACEMENT_BEYOND INT32_MIN
+
+/* Judges a placement as placement_judge does, and puts the judgement, the response and the margin of each task into out, which must not overlap
+ * the file or the placement. For n tasks it takes 2n + 2 numbers:
  *   out[0] is 0 if every rule is kept, or the number of the first broken rule (101 to 107);
  *   out[1] is the lowest number at which that rule is broken, that of a task, a group or a processor; 0 beside 0 and 106;
- *   out[2 + k] is the response of task k, 0 where the task is late, whichever rule is broken.
- * Returns the count of numbers written, n + 2; later places of out keep their contents. Or the refusal (1 to 11, 13, 14; then 12 with place 0 if
- * out has fewer than n + 2 places), and then nothing is written.
+ *   out[2 + k] is the response of task k, 0 where the task is late, whichever rule is broken;
+ *   out[2 + n + k] is the margin of task k: its deadline minus its worst response, below 0 where the task is late by that much; PLACEMENT_BEYOND
+ *   where the worst response is beyond the period.
+ * Returns the count of numbers written, 2n + 2; later places of out keep their contents. Or the refusal (1 to 11, 13, 14; then 12 with place 0 if
+ * out has fewer than 2n + 2 places), and then nothing is written.
  */
 uint64_t placement_judge_tasks(const uint8_t *file, size_t length, const uint8_t *placement, size_t placement_length, int32_t *out, size_t out_length);
 

@@ -2,11 +2,12 @@
 
 use crate::columns::aligned;
 use crate::listing::{Found, Listing, Stand};
+use crate::margin::Margin;
 use crate::model::{Cause, Kind, Refusal, Table, Task};
 use crate::reader::read;
 use crate::text::Names;
 use crate::text::line::keyword;
-use crate::text::write::named;
+use crate::text::write::{named, words};
 
 /// How many signs a full processor's bar has.
 const BAR: u64 = 40;
@@ -34,7 +35,7 @@ fn fits(table: &Table, listing: &Listing) -> bool {
         return false;
     };
     let stands = |(stand, task): (&Stand, &Task)| {
-        stand.processor < table.processors.len() && stand.deadline == task.deadline
+        stand.processor < table.processors.len() && stand.deadline == task.deadline && agree(stand, task)
     };
     let placed = |found: &Found| {
         found.tasks.len() == table.tasks.len()
@@ -42,6 +43,19 @@ fn fits(table: &Table, listing: &Listing) -> bool {
             && found.tasks.iter().zip(&table.tasks).all(stands)
     };
     found.as_ref().is_none_or(placed) && conflicts.iter().all(|conflict| conflict >> table.tasks.len() == 0)
+}
+
+/// Whether the response and the margin can be of one task: for one that is late the response is 0, and the
+/// margin is beyond or says by how much, which is at most up to the period.
+fn agree(stand: &Stand, task: &Task) -> bool {
+    let [response, deadline, period] = [stand.response, task.deadline, task.period].map(i64::from);
+    match stand.margin {
+        Margin::Beyond => response == 0,
+        Margin::Known(margin) => match deadline - i64::from(margin) {
+            least if least > deadline => response == 0 && least <= period,
+            least => response == least && response > 0,
+        },
+    }
 }
 
 /// One sentence for each sort of answer. The mark is said as what it means for the earlier placements.
@@ -78,19 +92,13 @@ fn meaning(found: bool, conflicts: usize, complete: bool) -> String {
 }
 
 fn placement(table: &Table, names: &Names, found: &Found) -> String {
-    let words = |words: [&str; 4]| words.map(str::to_string).to_vec();
-    let mut tasks = vec![words(["task", "processor", "response", "deadline"])];
-    for (Stand { processor, response, deadline }, name) in found.tasks.iter().zip(&names.tasks) {
-        tasks.push(words([
-            name,
-            &names.processors[*processor],
-            &response.to_string(),
-            &deadline.to_string(),
-        ]));
+    let mut tasks = vec![words([&"task", &"processor", &"response", &"deadline", &"margin"]).to_vec()];
+    for (Stand { processor, response, deadline, margin }, name) in found.tasks.iter().zip(&names.tasks) {
+        tasks.push(words([name, &names.processors[*processor], response, deadline, margin]).to_vec());
     }
-    let mut loads = vec![words(["processor", "load", "limit", ""])];
+    let mut loads = vec![words([&"processor", &"load", &"limit"]).to_vec()];
     for ((load, name), processor) in found.loads.iter().zip(&names.processors).zip(&table.processors) {
-        loads.push(words([name, &load.to_string(), &processor.limit.to_string(), &bar(*load)]));
+        loads.push(words([name, load, &processor.limit, &bar(*load)]).to_vec());
     }
     format!("\n{}\n{}", aligned(&tasks, GAP), aligned(&loads, GAP))
 }

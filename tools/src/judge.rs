@@ -1,5 +1,6 @@
 //! An independent judgement of placements, written from 01 "Judging a placement".
 
+use crate::margin::{Margin, margins};
 use crate::model::{Cause, MOST_TASKS, Refusal, Table};
 use crate::reader::read;
 use crate::schedule::{members, response};
@@ -32,47 +33,53 @@ pub struct Judgement {
     pub broken: Option<(Rule, usize)>,
     /// 0 beyond the tasks of the table.
     pub responses: [u32; MOST_TASKS],
+    /// A known 0 beyond the tasks of the table.
+    pub margins: [Margin; MOST_TASKS],
 }
 
-pub fn judge(file: &[u8], placement: &[u8]) -> Result<Judgement, Refusal> {
+/// A judgement, or why there is none.
+pub type Judged = Result<Judgement, Refusal>;
+
+pub fn judge(file: &[u8], placement: &[u8]) -> Judged {
     let table = read(file)?;
-    if placement.len() != table.tasks.len() {
-        return Err(Refusal { cause: Cause::PlacementLength, place: 0 });
-    }
-    let unknown = |&processor: &u8| usize::from(processor) >= table.processors.len();
-    if let Some(place) = placement.iter().position(unknown) {
-        return Err(Refusal { cause: Cause::UnknownProcessor, place });
-    }
-    let placed = Placed { table: &table, placement };
-    let broken = placed.first_broken();
+    let placed = Placed::of(&table, placement)?;
     let mut responses = [0; MOST_TASKS];
     for (task, answer) in responses.iter_mut().take(placement.len()).enumerate() {
         *answer = placed.response(task);
     }
-    Ok(Judgement { broken, responses })
+    Ok(Judgement { broken: placed.first_broken(), responses, margins: placed.margins() })
 }
 
-/// The one number of the C entry: the refusal's, or 0, or the broken rule's.
+/// The one number of the C entry: the refusal's, or 0, or the broken rule's. It needs no margins, and these
+/// take long.
 pub fn judge_number(file: &[u8], placement: &[u8]) -> u16 {
-    match judge(file, placement) {
+    let broken = |table| Ok(Placed::of(&table, placement)?.first_broken());
+    match read(file).and_then(broken) {
         Err(refusal) => refusal.cause as u16,
-        Ok(judgement) => judgement.broken.map_or(0, |(rule, _)| rule as u16),
+        Ok(broken) => broken.map_or(0, |(rule, _)| rule as u16),
     }
 }
 
-/// The C entry that hands back the whole judgement: into `out` the number, what it concerns, and the response of
-/// each task. What comes back is the count of places written, or a refusal's code, and then nothing is written.
+/// The C entry that hands back the whole judgement: into `out` the number, what it concerns, the response of
+/// each task and then the margin of each. What comes back is the count of places written, or a refusal's code,
+/// and then nothing is written.
 pub fn judge_tasks(file: &[u8], placement: &[u8], out: &mut [i32]) -> u64 {
-    let judgement = match judge(file, placement) {
+    write(&judge(file, placement), placement.len(), out)
+}
+
+/// Writes what was judged of a placement of so many tasks.
+pub fn write(judged: &Judged, tasks: usize, out: &mut [i32]) -> u64 {
+    let judgement = match judged {
         Ok(judgement) => judgement,
         Err(refusal) => return refusal.code(),
     };
-    let Some(places) = out.get_mut(..placement.len() + 2) else {
+    let Some(places) = out.get_mut(..2 * tasks + 2) else {
         return Refusal { cause: Cause::BufferTooShort, place: 0 }.code();
     };
     let (number, concerned) = judgement.broken.map_or((0, 0), |(rule, concerned)| (rule as usize, concerned));
-    let responses = judgement.responses.iter().map(|&response| response as i32);
-    let numbers = [number as i32, concerned as i32].into_iter().chain(responses);
+    let responses = judgement.responses[..tasks].iter().map(|&response| response as i32);
+    let margins = judgement.margins[..tasks].iter().map(|margin| margin.number());
+    let numbers = [number as i32, concerned as i32].into_iter().chain(responses).chain(margins);
     places.iter_mut().zip(numbers).for_each(|(place, number)| *place = number);
     places.len() as u64
 }
@@ -81,6 +88,19 @@ pub fn judge_tasks(file: &[u8], placement: &[u8], out: &mut [i32]) -> u64 {
 pub struct Placed<'a> {
     pub table: &'a Table,
     pub placement: &'a [u8],
+}
+
+impl<'a> Placed<'a> {
+    fn of(table: &'a Table, placement: &'a [u8]) -> Result<Placed<'a>, Refusal> {
+        if placement.len() != table.tasks.len() {
+            return Err(Refusal { cause: Cause::PlacementLength, place: 0 });
+        }
+        let unknown = |&processor: &u8| usize::from(processor) >= table.processors.len();
+        match placement.iter().position(unknown) {
+            Some(place) => Err(Refusal { cause: Cause::UnknownProcessor, place }),
+            None => Ok(Placed { table, placement }),
+        }
+    }
 }
 
 impl Placed<'_> {
@@ -162,5 +182,14 @@ impl Placed<'_> {
 
     pub fn response(&self, task: usize) -> u32 {
         response(&self.table.tasks, self.on(usize::from(self.placement[task])), task)
+    }
+
+    /// The margin of each task, by one run of each processor.
+    pub fn margins(&self) -> [Margin; MOST_TASKS] {
+        let mut all = [Margin::Known(0); MOST_TASKS];
+        for processor in 0..self.table.processors.len() {
+            margins(&self.table.tasks, self.on(processor)).for_each(|(task, margin)| all[task] = margin);
+        }
+        all
     }
 }

@@ -1,6 +1,6 @@
 //! Checks the placement tool against an independent implementation, written from the contract alone.
 //!
-//! - `reader`, `schedule`, `conflict`, `judge`, `search`: the independent implementation;
+//! - `reader`, `schedule`, `margin`, `conflict`, `judge`, `search`: the independent implementation;
 //! - `generate`: random inputs; `examples`: inputs with answers worked out by hand;
 //! - `comparison`: runs both on many inputs;
 //! - `tool`: the tool's C functions; `program`: the program, as a process;
@@ -20,6 +20,7 @@ pub mod file;
 pub mod generate;
 pub mod judge;
 pub mod listing;
+pub mod margin;
 pub mod model;
 pub mod program;
 pub mod question;

@@ -2,6 +2,7 @@
 
 use crate::comparison::searching::{PROGRAMS_BUFFER, Search};
 use crate::judge::Placed;
+use crate::margin::Margin;
 use crate::model::{CAUSES, Refusal, Table};
 use crate::reader::read;
 use crate::schedule::members;
@@ -34,6 +35,7 @@ pub struct Stand {
     pub processor: usize,
     pub response: u32,
     pub deadline: u32,
+    pub margin: Margin,
 }
 
 /// What the program prints for this file, if this is its search.
@@ -71,11 +73,12 @@ pub fn of_answer(table: &Table, answer: &[u8]) -> Listing {
 }
 
 fn found(placed: &Placed) -> Found {
-    let table = placed.table;
+    let (table, margins) = (placed.table, placed.margins());
     let stand = |(task, &processor): (usize, &u8)| Stand {
         processor: usize::from(processor),
         response: placed.response(task),
         deadline: table.tasks[task].deadline,
+        margin: margins[task],
     };
     let thousandths = |processor| 1000 * placed.load(processor) / u64::from(table.hyperperiod);
     Found {
@@ -106,8 +109,9 @@ impl fmt::Display for Listing {
 
 impl fmt::Display for Found {
     fn fmt(&self, out: &mut fmt::Formatter) -> fmt::Result {
-        for (task, Stand { processor, response, deadline }) in self.tasks.iter().enumerate() {
-            writeln!(out, "task {task} on {processor} response {response} deadline {deadline}")?;
+        for (task, Stand { processor, response, deadline, margin }) in self.tasks.iter().enumerate() {
+            write!(out, "task {task} on {processor} ")?;
+            writeln!(out, "response {response} deadline {deadline} margin {margin}")?;
         }
         for (processor, load) in self.loads.iter().enumerate() {
             writeln!(out, "load {processor} {load}")?;
@@ -138,10 +142,13 @@ fn searched(first: &[&str], rest: &[Vec<&str>]) -> Option<Listing> {
     let mut conflicts = Vec::new();
     for line in lines {
         match line[..] {
-            ["task", _, "on", processor, "response", response, "deadline", deadline] => {
-                let processor = processor.parse().ok()?;
-                let (response, deadline) = (response.parse().ok()?, deadline.parse().ok()?);
-                found.tasks.push(Stand { processor, response, deadline });
+            ["task", _, "on", on, "response", response, "deadline", deadline, "margin", margin] => {
+                found.tasks.push(Stand {
+                    processor: on.parse().ok()?,
+                    response: response.parse().ok()?,
+                    deadline: deadline.parse().ok()?,
+                    margin: margin.parse().ok()?,
+                });
             }
             ["load", _, load] => found.loads.push(load.parse().ok()?),
             ["conflict", ref tasks @ ..] => conflicts.push(set(tasks)?),

@@ -12,7 +12,7 @@ struct Job {
 /// A set of tasks that run alone on one processor, as far as they have come: 01 "Response and run", tick by
 /// tick and job by job.
 pub struct Run<'a> {
-    tasks: &'a [Task],
+    pub tasks: &'a [Task],
     set: u32,
     /// The next tick.
     tick: u32,
@@ -32,6 +32,11 @@ pub fn members(mut set: u32) -> impl Iterator<Item = usize> {
         set &= set.wrapping_sub(1);
         (lowest < 32).then_some(lowest)
     })
+}
+
+/// The set of all these tasks.
+pub fn all(tasks: &[Task]) -> u32 {
+    (1 << tasks.len()) - 1
 }
 
 impl Run<'_> {
@@ -61,6 +66,12 @@ impl Run<'_> {
         while self.tick < end && !self.late {
             self.step();
         }
+    }
+
+    /// Whether a task's first job has had no tick so far. If it had none in a hyperperiod, the tasks of
+    /// higher priority take every tick there is, and it never gets one.
+    pub fn is_waiting(&self, task: usize) -> bool {
+        self.unfinished.iter().any(|job| (job.task, job.released, job.had) == (task, 0, 0))
     }
 
     /// What the ticks to come depend on, once all tasks release together: the unfinished jobs in the order of
@@ -147,23 +158,19 @@ fn demand(tasks: &[Task], higher: u32, own: &Task, time: u32) -> u64 {
     u64::from(own.execution) + members(higher).map(|other| interference(&tasks[other])).sum::<u64>()
 }
 
+/// The first number up to the last one that solves the equation, by trying each.
+#[cfg(test)]
+pub fn first_solution(tasks: &[Task], set: u32, task: usize, last: u32) -> Option<u32> {
+    let higher = higher(tasks, set, &tasks[task]);
+    (1..=last).find(|&time| demand(tasks, higher, &tasks[task], time) == u64::from(time))
+}
+
 #[cfg(test)]
 mod tests {
     use super::*;
     use crate::examples::task;
     use crate::generate::sets::{load, random_set};
     use crate::random::Random;
-
-    fn all(tasks: &[Task]) -> u32 {
-        (1 << tasks.len()) - 1
-    }
-
-    /// The first number up to the deadline that solves the equation.
-    fn first_solution(tasks: &[Task], set: u32, task: usize) -> u32 {
-        let higher = higher(tasks, set, &tasks[task]);
-        let solves = |time: &u32| demand(tasks, higher, &tasks[task], *time) == u64::from(*time);
-        (1..=tasks[task].deadline).find(solves).unwrap_or(0)
-    }
 
     /// What must have occurred among the random sets for the comparison to mean anything.
     #[derive(Default, Debug)]
@@ -222,7 +229,8 @@ mod tests {
                 let finish = run.first_finish[task];
                 let in_time = if finish <= tasks[task].deadline { finish } else { 0 };
                 assert_eq!(response(&tasks, all(&tasks), task), in_time, "{task} of {tasks:?}");
-                assert_eq!(first_solution(&tasks, all(&tasks), task), in_time, "{task} of {tasks:?}");
+                let solution = first_solution(&tasks, all(&tasks), task, tasks[task].deadline);
+                assert_eq!(solution.unwrap_or(0), in_time, "{task} of {tasks:?}");
                 seen.note_task(&tasks, task, &run);
             }
         }

@@ -44,8 +44,8 @@ pub fn judge(file: &[u8], placement: &[u8]) -> u16 {
     unsafe { c::placement_judge(file.as_ptr(), file.len(), placement.as_ptr(), placement.len()) }
 }
 
-/// The count of numbers written into `out`, which are the judgement's number, what it concerns and the responses;
-/// or the refusal's number × 2^32 + its place.
+/// The count of numbers written into `out`, which are the judgement's number, what it concerns, the responses
+/// and the margins; or the refusal's number × 2^32 + its place.
 pub fn judge_tasks(file: &[u8], placement: &[u8], out: &mut [i32]) -> u64 {
     // SAFETY: the slices are valid during the call; the function only reads the file and the placement, and
     // writes within `out` alone.

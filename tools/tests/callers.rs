@@ -3,7 +3,9 @@
 use std::path::{Path, PathBuf};
 use std::process::Command;
 use tools::examples::searching::three;
+use tools::examples::task;
 use tools::file::encode;
+use tools::model::Table;
 use tools::program::{root, run};
 
 fn library() -> PathBuf {
@@ -45,21 +47,27 @@ fn judging() {
 }
 
 /// The program's example. On one processor the third task would end at 10, past its deadline of 9. Where task 1
-/// may not stand on processor 1, that is broken first, and the responses are there all the same.
+/// may not stand on processor 1, that is broken first, and responses and margins are there all the same. With
+/// 2 4 4 above 3 6 6 the second would end at 7, past its period.
 #[test]
 fn judging_task_by_task() {
     let program = of_c("tasks.c");
     let example = encode(&three());
-    let kept = "every rule is kept\ntask 0 on 0 response 1\ntask 1 on 0 response 3\ntask 2 on 1 response 3\n";
+    let kept = "every rule is kept\n\
+        task 0 on 0 response 1 margin 3\ntask 1 on 0 response 3 margin 3\ntask 2 on 1 response 3 margin 6\n";
     prints(&program, &["0", "0", "1"], &example, kept);
     let late = "rule 107 is broken, number concerned 2\n\
-        task 0 on 0 response 1\ntask 1 on 0 response 3\ntask 2 on 0 late\n";
+        task 0 on 0 response 1 margin 3\ntask 1 on 0 response 3 margin 3\ntask 2 on 0 late by 1\n";
     prints(&program, &["0", "0", "0"], &example, late);
     let mut bound = three();
     bound.tasks[1].residence = 1;
     let elsewhere = "rule 101 is broken, number concerned 1\n\
-        task 0 on 1 response 1\ntask 1 on 1 response 3\ntask 2 on 1 late\n";
+        task 0 on 1 response 1 margin 3\ntask 1 on 1 response 3 margin 3\ntask 2 on 1 late by 1\n";
     prints(&program, &["1", "1", "1"], &encode(&bound), elsewhere);
+    let full = Table { tasks: vec![task(2, 4, 4, 30), task(3, 6, 6, 20)], ..three() };
+    let beyond = "rule 107 is broken, number concerned 1\n\
+        task 0 on 0 response 2 margin 2\ntask 1 on 0 late beyond its period\n";
+    prints(&program, &["0", "0"], &encode(&full), beyond);
     prints(&program, &["0", "0"], &example, "refused: cause 13 at 0\n");
     prints(&program, &["0", "0", "0", "0"], &example, "refused: cause 13 at 0\n");
     prints(&program, &["0", "0", "2"], &example, "refused: cause 14 at 2\n");

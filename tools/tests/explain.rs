@@ -5,12 +5,14 @@ use std::path::{Path, PathBuf};
 use std::process::Command;
 use tools::comparison::explained::check;
 use tools::comparison::explaining::compare;
-use tools::examples::reading;
 use tools::examples::searching::{LISTING, three};
+use tools::examples::{reading, task};
 use tools::explain::explain;
 use tools::file::encode;
 use tools::generate::files::sorts;
+use tools::generate::sets::free_table;
 use tools::listing::{Found, Listing, Stand, parse};
+use tools::margin::Margin;
 use tools::model::Refusal;
 use tools::program::{self, root};
 use tools::tool;
@@ -19,10 +21,10 @@ const EXAMPLE: &str = "\
 Found: this is the first placement that keeps the rules and in which no job is ever late; the set listed \
 cannot share a processor, and every earlier one breaks a rule or has that set on one processor.
 
-task    processor  response  deadline
-brake   drive-a           1         4
-motor   drive-a           3         6
-report  drive-b           3         9
+task    processor  response  deadline  margin
+brake   drive-a           1         4       3
+motor   drive-a           3         6       3
+report  drive-b           3         9       6
 
 processor  load  limit
 drive-a     583   1000  |########################                |
@@ -37,10 +39,10 @@ const WITHOUT_NAMES: &str = "\
 Found: this is the first placement that keeps the rules and in which no job is ever late; the set listed \
 cannot share a processor, and every earlier one breaks a rule or has that set on one processor.
 
-task  processor  response  deadline
-t0    p0                1         4
-t1    p0                3         6
-t2    p1                3         9
+task  processor  response  deadline  margin
+t0    p0                1         4       3
+t1    p0                3         6       3
+t2    p1                3         9       6
 
 processor  load  limit
 p0          583   1000  |########################                |
@@ -54,10 +56,10 @@ const BARRIER: &str = "\
 Found: this is the first placement that keeps the rules and in which no job is ever late; each of the 2 sets \
 listed cannot share a processor, and every earlier one breaks a rule or has such a set on one processor.
 
-task        processor  response  deadline
-lamp        card-a            2         2
-gate-left   card-b            2         4
-gate-right  card-b            4         4
+task        processor  response  deadline  margin
+lamp        card-a            2         2       0
+gate-left   card-b            2         4       2
+gate-right  card-b            4         4       0
 
 processor  load  limit
 card-a      500   1000  |####################                    |
@@ -73,10 +75,68 @@ const REFUSED: &str =
 
 /// A listing of the program's example, with these sets and this mark.
 fn of_the_program(found: bool, conflicts: Vec<u32>, complete: bool) -> Listing {
-    let stand = |processor, response, deadline| Stand { processor, response, deadline };
-    let tasks = vec![stand(0, 1, 4), stand(0, 3, 6), stand(1, 3, 9)];
+    let stand = |processor, response, deadline, margin| {
+        let margin = Margin::Known(margin);
+        Stand { processor, response, deadline, margin }
+    };
+    let tasks = vec![stand(0, 1, 4, 3), stand(0, 3, 6, 3), stand(1, 3, 9, 6)];
     let found = found.then(|| Found { tasks, loads: vec![583, 250] });
     Listing::Searched { found, conflicts, complete }
+}
+
+/// The same, with this response and this margin of the last task.
+fn with_last(response: u32, margin: Margin) -> Listing {
+    let mut listing = of_the_program(true, Vec::new(), true);
+    if let Listing::Searched { found: Some(found), .. } = &mut listing {
+        let last = found.tasks.last_mut().expect("a task");
+        (last.response, last.margin) = (response, margin);
+    }
+    listing
+}
+
+/// A margin belongs to the response and the deadline, which is 9 in a period of 12. A late task, which no
+/// found placement has, is explained all the same.
+#[test]
+fn margins() {
+    let file = encode(&three());
+    let of = |response, margin| explain(&file, None, &with_last(response, margin));
+    for response in 1..=9 {
+        for margin in -10..=10 {
+            let explained = of(response, Margin::Known(margin));
+            assert_eq!(explained.is_some(), response as i32 + margin == 9, "{response} and {margin}");
+        }
+        assert_eq!(of(response, Margin::Beyond), None);
+    }
+    for margin in (-10..=10).chain([i32::MIN, i32::MAX]) {
+        assert_eq!(of(0, Margin::Known(margin)).is_some(), (-3..0).contains(&margin), "{margin}");
+    }
+    assert_eq!(of(10, Margin::Known(-1)), None);
+    let late = of(0, Margin::Known(-3)).expect("a late task");
+    assert!(late.contains("t1    p0                3         6       3\n"), "{late}");
+    assert!(late.contains("t2    p1                0         9      -3\n"), "{late}");
+    let beyond = of(0, Margin::Beyond).expect("a late task");
+    assert!(beyond.contains("t2    p1                0         9  beyond\n"), "{beyond}");
+    for (margin, explained) in [(Margin::Known(-3), late), (Margin::Beyond, beyond)] {
+        assert_eq!(check(&file, None, &with_last(0, margin).to_string(), &explained), Ok(()));
+    }
+}
+
+/// The longest margin is wider than the word above it: that stands at the left, and so does `beyond`.
+#[test]
+fn wide_margins() {
+    let tasks = vec![task(999_999, 1_000_000, 1_000_000, 3), task(1, 1_000_000, 1, 2), task(1, 10, 10, 1)];
+    let file = encode(&free_table(tasks, 1));
+    let lines = "task 0 on 0 response 999999 deadline 1000000 margin 1\n\
+        task 1 on 0 response 0 deadline 1 margin -999999\n\
+        task 2 on 0 response 0 deadline 10 margin beyond\n";
+    let listing = format!("found\n{lines}load 0 1000\ncomplete\n");
+    let explained = explain(&file, None, &parse(&listing).expect("a listing")).expect("one of this table");
+    let rows = "task  processor  response  deadline  margin\n\
+        t0    p0           999999   1000000        1\n\
+        t1    p0                0         1  -999999\n\
+        t2    p0                0        10  beyond\n";
+    assert!(explained.contains(rows), "{explained}");
+    assert_eq!(check(&file, None, &listing, &explained), Ok(()));
 }
 
 /// What every listing of the example says, whether or not it is true.
@@ -130,11 +190,14 @@ fn listings_of_other_tables() {
     assert!(of("none\nconflict 0 1 2\ncomplete\n").is_some());
     assert_eq!(of("none\nconflict 0 1 3\ncomplete\n"), None);
     assert_eq!(of("refused 7 36\n"), None);
-    assert_eq!(of("found\ntask 0 on 0 response 1 deadline 4\nload 0 583\nload 1 250\ncomplete\n"), None);
+    let one_task = "found\ntask 0 on 0 response 1 deadline 4 margin 3\nload 0 583\nload 1 250\ncomplete\n";
+    assert_eq!(of(one_task), None);
     let printed = of_the_program(true, vec![7], true).to_string();
     assert!(of(&printed).is_some());
     assert_eq!(of(&printed.replace("on 1", "on 2")), None);
     assert_eq!(of(&printed.replace("deadline 9", "deadline 10")), None);
+    assert_eq!(of(&printed.replace("deadline 9 margin 6", "deadline 10 margin 7")), None);
+    assert_eq!(of(&printed.replace("margin 6", "margin 7")), None);
     assert_eq!(of(&printed.replace("load 1 250\n", "")), None);
     assert_eq!(explain(&file[..20], None, &of_the_program(true, vec![7], true)), None);
 }

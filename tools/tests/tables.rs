@@ -171,6 +171,20 @@ fn listings_are_taken_apart() {
     }
 }
 
+/// A found placement has no margin below 0 and none beyond, but a listing may.
+#[test]
+fn listings_with_every_sort_of_margin() {
+    let text = |margin: &str| LISTING.replace("margin 6", &format!("margin {margin}"));
+    for margin in ["0", "6", "-1", "-999999", "999999", "beyond"] {
+        let listing = parse(&text(margin)).unwrap_or_else(|| panic!("{margin}"));
+        assert_eq!(listing.to_string(), text(margin));
+    }
+    for margin in ["", "-", "-0", "+6", "06", "6 ", "Beyond", "beyond 6", "- 1", "2147483648"] {
+        assert_eq!(parse(&text(margin)), None, "{margin}");
+    }
+    assert_eq!(parse(&LISTING.replace(" margin 6", "")), None);
+}
+
 #[test]
 fn the_comparison_of_listings_notices_differences() {
     let stored = "found\nload 0 5\nconflict 0 1\nconflict 1 2\ncomplete\n";

@@ -4,7 +4,7 @@ use mathlib.Core.List.{List, [], _∷_}
 use Prim.Native.Nat.{ℕ}
 use native.Mathlib.Omega.{arith}
 use lib.Dec.{T}
-use Rattle.finite.specs.Finite.{someBelow, sumTo, firstFrom, firstBelow}
+use Rattle.finite.specs.Finite.{someBelow, sumTo, firstFrom, firstBelow, tabulate}
 use Rattle.mask.specs.Mask.{has, below}
 use Rattle.lcm.specs.Lcm.{lcm, lcmTo}
 use Rattle.wire.specs.Wire.{little, number, bytes, markAt, pieces}
@@ -19,7 +19,7 @@ use Rattle.table.specs.Sound.{Sound}
 use Rattle.table.proofs.Sound.{read-sound}
 use Rattle.table.proofs.EncodedBytes.{encode-bytes}
 use Rattle.schedule.specs.Run.{service, scheduled, pending, unfinished}
-use Rattle.schedule.specs.Response.{response, leastSolution, demand, ceil, lateTest}
+use Rattle.schedule.specs.Response.{response, worstResponse, leastSolution, demand, ceil, lateTest}
 use Rattle.schedule.proofs.LateSets.{late-test}
 use Rattle.timing.specs.Timing.{tasksIn}
 use Rattle.timing.proofs.Limits.{valid-tasks, constrained-tasks}
@@ -28,12 +28,12 @@ use Rattle.rules.specs.Rules.{firstBroken, checkRule, residenceBroken, coReside
 use Rattle.conflict.specs.declared.Finding.the-variants.{MinimalConflict}
 use Rattle.conflict.specs.Conflict.{Right, findingOf}
 use Rattle.conflict.proofs.Findings.{finding-right}
-use Rattle.judge.specs.Judge.{judgeOf, judgedOn, firstUnknown, responsesOf}
+use Rattle.judge.specs.Judge.{judgeOf, judgedOn, firstUnknown, responsesOf, marginsOf}
 use Rattle.cases.specs.Cases.{Claim, judged, ends, late, minimal, load, Case, tableFor, fileOf, Claimed, EachHolds, AllHold, cases}
 
 -- what is computed for a claim: lateness goes by the responses, the rest is computed as it stands
 abbrev Computed : List ℕ → Table → List ℕ → Claim → Type 0
-Computed file t q (judged answer responses) = Claimed file t q (judged answer responses)
+Computed file t q (judged answer responses margins) = Claimed file t q (judged answer responses margins)
 Computed file t q (ends k x) = Claimed file t q (ends k x)
 Computed file t q (late set) = T (lateTest (tasksIn t) (has set))
 Computed file t q (minimal set) = T (below (t .tasks .count) set) × (findingOf (tasksIn t) set ≡ MinimalConflict)
@@ -49,7 +49,7 @@ AllComputed (c ∷ cs) = ((readOf (fileOf c) .outcome ≡ Readable) × EachCompu
 
 module _ (file : List ℕ) {t : Table} (s : Sound t) (q : List ℕ) where
   claimed : (x : Claim) → Computed file t q x → Claimed file t q x
-  claimed (judged answer responses) e = e
+  claimed (judged answer responses margins) e = e
   claimed (ends k x) e = e
   claimed (late set) e = late-test (tasksIn t) (valid-tasks s) (has set) (constrained-tasks s) .0 e
   claimed (minimal set) e = subst (Right (tasksIn t) set) (e .1) (finding-right (tasksIn t) (valid-tasks s) (constrained-tasks s) set (e .0))
@@ -68,14 +68,16 @@ row : {A B : Type 0} → A → B → A × B
 row a b = (a, b)
 
 computed : AllComputed cases
-unfolding judgeOf judgedOn firstUnknown responsesOf firstBroken checkRule firstBelow someBelow sumTo firstFrom elsewhere apart together somePair residenceBroken coResidenceBroken exclusionBroken
-    memoryBroken memoryOn utilisationBroken loadOn networkBroken traffic service scheduled pending unfinished response leastSolution demand ceil readOf tableOf emptyTable column scanOf scanFrom atEnd
+unfolding judgeOf judgedOn firstUnknown responsesOf marginsOf firstBroken checkRule firstBelow someBelow sumTo firstFrom tabulate elsewhere apart together somePair residenceBroken coResidenceBroken exclusionBroken
+    memoryBroken memoryOn utilisationBroken loadOn networkBroken traffic service scheduled pending unfinished response worstResponse leastSolution demand ceil readOf tableOf emptyTable column scanOf scanFrom atEnd
     missing encode pieces encodeRecord fieldBytes verdict recordVerdict contentVerdict hyperperiodTooLarge messageRepeated periodsDiffer priorityUsed notInFile badPair badGroup badResidence outOfRange
     tooMany outOfOrder kindAt bytesOf placeIn recordCut markCut little number bytes markAt lcm lcmTo
 computed =
     row (refl, (refl, ((omega arith, refl), ((omega arith, refl), ((omega arith, refl), tt)))))
-    (row (refl, (refl, ((tt, refl), tt)))
+    (row (refl, (refl, ((tt, refl), ((omega arith, refl), tt))))
+    (row (refl, (refl, ((omega arith, refl), tt)))
     (row (refl, (refl, ((omega arith, refl), ((omega arith, refl), tt))))
+    (row (refl, (refl, ((omega arith, refl), tt)))
     (row (refl, (refl, (tt, (refl, tt))))
     (row (refl, (refl, (tt, (refl, tt))))
     (row (refl, (refl, tt))
@@ -84,7 +86,7 @@ computed =
     (row (refl, (refl, (refl, tt)))
     (row (refl, (refl, tt))
     (row (refl, (refl, tt))
-    tt))))))))))
+    tt))))))))))))
 
 pub cases-hold : AllHold cases
 cases-hold = all-hold cases computed

@@ -1,12 +1,16 @@
--- The starred cases of 01, "Table of cases": a row is a table file, a placement of its tasks, and what 01 claims of them.
+-- The starred cases of 01, "Table of cases", with the margins of 02, 2026-01: a row is a table file, a placement of its tasks, and what is claimed of them.
 use mathlib.Core.Path.{_≡_}
 use mathlib.Core.List.{List, [], _∷_, map}
 use Prim.Native.Nat.{ℕ, _-_, _*_, _^_, _<_}
+use lib.IntN.{pos, _-ℤ_}
 use lib.ListN.{length, getD}
+use Rattle.finite.specs.Finite.{tabulate}
 use Rattle.mask.specs.Mask.{has}
 use Rattle.table.specs.declared.Table.{Table}
 use Rattle.table.specs.Table.{column, readOf}
 use Rattle.table.specs.Encode.{encode}
+use Rattle.schedule.specs.declared.Margin.{Margin}
+use Rattle.schedule.specs.declared.Margin.the-variants.{Known, Beyond}
 use Rattle.schedule.specs.Run.{service}
 use Rattle.schedule.specs.Periodic.{run, LateSet}
 use Rattle.timing.specs.Timing.{tasksIn}
@@ -38,8 +42,8 @@ pub record Message : Type 0 where
 
 -- what a row can claim
 pub data Claim : Type 0 where
-  -- the judgement on the placement, and the responses of its tasks
-  judged : Judgement → List ℕ → Claim
+  -- the judgement on the placement, and the responses and the margins of its tasks
+  judged : Judgement → List ℕ → List Margin → Claim
   -- in the tick run of its processor the first job of task k ends with tick x - 1
   ends : (k x : ℕ) → Claim
   -- the set of tasks is late; it is a minimal conflict
@@ -88,7 +92,13 @@ fileOf c = encode (tableFor c)
 
 -- a claim, of the file's bytes and of the table that is read from them
 abbrev pub Claimed : List ℕ → Table → List ℕ → Claim → Type 0
-Claimed file t q (judged answer responses) = judgeOf file q ≡ record { judgement = answer; responses = column 24 (length responses) (λ j. getD responses j 0) }
+Claimed file t q (judged answer responses margins) =
+    judgeOf file q
+    ≡ record {
+      judgement = answer;
+      responses = column 24 (length responses) (λ j. getD responses j 0);
+      margins = tabulate 24 (λ j. record { margin = getD margins j (Known (pos 0)) });
+    }
 Claimed file t q (ends k x) =
     (service (run (tasksIn t) (alongside q k)) (x - 1) k 0 < tasksIn t .C k) × (service (run (tasksIn t) (alongside q k)) x k 0 ≡ tasksIn t .C k)
 Claimed file t q (late set) = LateSet (tasksIn t) (has set)
@@ -132,30 +142,43 @@ onTwo capacity tasks messages claims = record {
   claims = claims;
 }
 
+-- a margin of so many ticks, and one below zero by so many
+abbrev pub by : ℕ → Margin
+by x = Known (pos x)
+
+abbrev pub late-by : ℕ → Margin
+late-by x = Known (pos 0 -ℤ pos x)
+
 -- memory 10 and a processor of memory 100 and limit 1000, unless the case is about these
 abbrev pub cases : List Case
 cases =
-    -- tasks (C, T, D) 1 4 4, 2 6 6, 3 12 10, falling priority, one processor: responses 1, 3, 10
+    -- tasks (C, T, D) 1 4 4, 2 6 6, 3 12 10, falling priority, one processor: responses 1, 3, 10; margins 3, 3, 0
     onOne (processor 100 1000) (task 1 4 4 10 3 ∷ task 2 6 6 10 2 ∷ task 3 12 10 10 1 ∷ [])
-    (judged Kept (1 ∷ 3 ∷ 10 ∷ []) ∷ ends 0 1 ∷ ends 1 3 ∷ ends 2 10 ∷ [])
-    -- with D 9 the set is a minimal conflict
-    ∷ onOne (processor 100 1000) (task 1 4 4 10 3 ∷ task 2 6 6 10 2 ∷ task 3 12 9 10 1 ∷ []) (judged (Broken Deadline 2) (1 ∷ 3 ∷ 0 ∷ []) ∷ minimal 7 ∷ [])
+    (judged Kept (1 ∷ 3 ∷ 10 ∷ []) (by 3 ∷ by 3 ∷ by 0 ∷ []) ∷ ends 0 1 ∷ ends 1 3 ∷ ends 2 10 ∷ [])
+    -- with D 9 the set is a minimal conflict; the last task is late by 1
+    ∷ onOne (processor 100 1000) (task 1 4 4 10 3 ∷ task 2 6 6 10 2 ∷ task 3 12 9 10 1 ∷ [])
+    (judged (Broken Deadline 2) (1 ∷ 3 ∷ 0 ∷ []) (by 3 ∷ by 3 ∷ late-by 1 ∷ []) ∷ minimal 7 ∷ ends 2 10 ∷ [])
+    -- with D 3 its margin reaches further below zero: 3 - 10
+    ∷ onOne (processor 100 1000) (task 1 4 4 10 3 ∷ task 2 6 6 10 2 ∷ task 3 12 3 10 1 ∷ [])
+    (judged (Broken Deadline 2) (1 ∷ 3 ∷ 0 ∷ []) (by 3 ∷ by 3 ∷ late-by 7 ∷ []) ∷ ends 2 10 ∷ [])
     -- 2 4 4 and 2 4 4: responses 2, 4
-    ∷ onOne (processor 100 1000) (task 2 4 4 10 2 ∷ task 2 4 4 10 1 ∷ []) (judged Kept (2 ∷ 4 ∷ []) ∷ ends 0 2 ∷ ends 1 4 ∷ [])
-    -- 2 4 4 above 3 6 6: late at load exactly 1
-    ∷ onOne (processor 100 1000) (task 2 4 4 10 2 ∷ task 3 6 6 10 1 ∷ []) (judged (Broken Deadline 1) (2 ∷ 0 ∷ []) ∷ late 3 ∷ load 0 1 1 ∷ [])
+    ∷ onOne (processor 100 1000) (task 2 4 4 10 2 ∷ task 2 4 4 10 1 ∷ []) (judged Kept (2 ∷ 4 ∷ []) (by 2 ∷ by 0 ∷ []) ∷ ends 0 2 ∷ ends 1 4 ∷ [])
+    -- with D 3 for the second: late, and known at exactly the period
+    ∷ onOne (processor 100 1000) (task 2 4 4 10 2 ∷ task 2 4 3 10 1 ∷ []) (judged (Broken Deadline 1) (2 ∷ 0 ∷ []) (by 2 ∷ late-by 1 ∷ []) ∷ ends 1 4 ∷ [])
+    -- 2 4 4 above 3 6 6: late at load exactly 1; the least solution is 7, beyond the period by one
+    ∷ onOne (processor 100 1000) (task 2 4 4 10 2 ∷ task 3 6 6 10 1 ∷ []) (judged (Broken Deadline 1) (2 ∷ 0 ∷ []) (by 2 ∷ Beyond ∷ []) ∷ late 3 ∷ load 0 1 1 ∷ [])
     -- with priorities exchanged: late
-    ∷ onOne (processor 100 1000) (task 2 4 4 10 1 ∷ task 3 6 6 10 2 ∷ []) (judged (Broken Deadline 0) (0 ∷ 3 ∷ []) ∷ late 3 ∷ load 0 1 1 ∷ [])
+    ∷ onOne (processor 100 1000) (task 2 4 4 10 1 ∷ task 3 6 6 10 2 ∷ []) (judged (Broken Deadline 0) (0 ∷ 3 ∷ []) (Beyond ∷ by 3 ∷ []) ∷ late 3 ∷ load 0 1 1 ∷ [])
     -- memory 100 takes 60 + 40
-    ∷ onOne (processor 100 1000) (task 1 4 4 60 2 ∷ task 2 6 6 40 1 ∷ []) (judged Kept (1 ∷ 3 ∷ []) ∷ [])
+    ∷ onOne (processor 100 1000) (task 1 4 4 60 2 ∷ task 2 6 6 40 1 ∷ []) (judged Kept (1 ∷ 3 ∷ []) (by 3 ∷ by 3 ∷ []) ∷ [])
     -- not 60 + 41
-    ∷ onOne (processor 100 1000) (task 1 4 4 60 2 ∷ task 2 6 6 41 1 ∷ []) (judged (Broken Memory 0) (1 ∷ 3 ∷ []) ∷ [])
+    ∷ onOne (processor 100 1000) (task 1 4 4 60 2 ∷ task 2 6 6 41 1 ∷ []) (judged (Broken Memory 0) (1 ∷ 3 ∷ []) (by 3 ∷ by 3 ∷ []) ∷ [])
     -- load 7/12 keeps limit 584
-    ∷ onOne (processor 100 584) (task 1 4 4 10 2 ∷ task 2 6 6 10 1 ∷ []) (judged Kept (1 ∷ 3 ∷ []) ∷ load 0 7 12 ∷ [])
+    ∷ onOne (processor 100 584) (task 1 4 4 10 2 ∷ task 2 6 6 10 1 ∷ []) (judged Kept (1 ∷ 3 ∷ []) (by 3 ∷ by 3 ∷ []) ∷ load 0 7 12 ∷ [])
     -- breaks 583
-    ∷ onOne (processor 100 583) (task 1 4 4 10 2 ∷ task 2 6 6 10 1 ∷ []) (judged (Broken Utilisation 0) (1 ∷ 3 ∷ []) ∷ load 0 7 12 ∷ [])
+    ∷ onOne (processor 100 583) (task 1 4 4 10 2 ∷ task 2 6 6 10 1 ∷ []) (judged (Broken Utilisation 0) (1 ∷ 3 ∷ []) (by 3 ∷ by 3 ∷ []) ∷ load 0 7 12 ∷ [])
     -- capacity 1 carries amounts 6 and 6 at period 12
-    ∷ onTwo 1 (task 1 12 12 10 2 ∷ task 1 12 12 10 1 ∷ []) (message 0 1 6 ∷ message 1 0 6 ∷ []) (judged Kept (1 ∷ 1 ∷ []) ∷ [])
+    ∷ onTwo 1 (task 1 12 12 10 2 ∷ task 1 12 12 10 1 ∷ []) (message 0 1 6 ∷ message 1 0 6 ∷ []) (judged Kept (1 ∷ 1 ∷ []) (by 11 ∷ by 11 ∷ []) ∷ [])
     -- not 6 and 7
-    ∷ onTwo 1 (task 1 12 12 10 2 ∷ task 1 12 12 10 1 ∷ []) (message 0 1 6 ∷ message 1 0 7 ∷ []) (judged (Broken Network 0) (1 ∷ 1 ∷ []) ∷ [])
+    ∷ onTwo 1 (task 1 12 12 10 2 ∷ task 1 12 12 10 1 ∷ []) (message 0 1 6 ∷ message 1 0 7 ∷ []) (judged (Broken Network 0) (1 ∷ 1 ∷ []) (by 11 ∷ by 11 ∷ []) ∷ [])
     ∷ []

@@ -6,3 +6,4 @@ pub mod Search
 pub mod Stored
 pub mod Tabulate
 pub mod SumLoop
+pub mod Filling

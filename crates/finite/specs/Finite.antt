@@ -29,6 +29,6 @@ firstBelow zero p = 0
 firstBelow (suc n) p = elim (p 0) [ true ↦ 0 | false ↦ suc (firstBelow n (λ k. p (suc k))) ]
 
 -- the list f 0, .., f (n - 1)
-unfoldable pub tabulate : ℕ → (ℕ → ℕ) → List ℕ
+unfoldable pub tabulate : {A : Type 0} → ℕ → (ℕ → A) → List A
 tabulate zero f = []
 tabulate (suc n) f = f 0 ∷ tabulate n (λ i. f (suc i))

@@ -1,5 +1,5 @@
 -- A table that was read is within the schedule's limits, and so are the sets of a placement. Assumes nothing.
-use mathlib.Core.Path.{_≡_, ap, fun-ext, _∙_}
+use mathlib.Core.Path.{_≡_, refl, ap, fun-ext, _∙_}
 use mathlib.Core.Bool.{Bool}
 use mathlib.Core.List.{List}
 use Prim.Native.Nat.{ℕ, _^_, _≤_, _<_}
@@ -15,14 +15,14 @@ use Rattle.mask.proofs.Laws.{mask-lt}
 use Rattle.table.specs.declared.Table.{Table}
 use Rattle.table.specs.Sound.{Sound}
 use Rattle.table.proofs.Columns.{column-in, column-beyond}
-use Rattle.schedule.specs.Response.{response}
+use Rattle.schedule.specs.Response.{response, worstResponse, upTo}
+use Rattle.schedule.specs.Margin.{marginBy, marginOf}
 use Rattle.schedule.specs.Arrays.{tasksOf}
 use Rattle.timing.specs.Timing.{timingOf}
 use Rattle.timing.proofs.Limits.{limits-of}
-use Rattle.rules.specs.Placement.{placed}
 use Rattle.rules.specs.Sets.{Placeable, setsOf}
 use Rattle.rules.proofs.Sets.{sets-placed}
-use Rattle.judge.specs.Judge.{PlacementOf, firstUnknown, responseOf}
+use Rattle.judge.specs.Judge.{PlacementOf, firstUnknown, alongside, responseOf}
 use Rattle.judge.specs.Arrays.{Placed}
 
 -- no byte is unknown, so all name processors
@@ -50,12 +50,14 @@ sets-below q p = go (decLt p 8)
     go (yes l) = rw (column-in 8 8 tasks p (omega arith) l) (lt→ltb (tasks p) (2 ^ length q) (mask-lt (length q) (λ k. eqb (getD q k 0) p)))
     go (no l) = rw (column-beyond 8 8 tasks p (omega arith)) (lt→ltb 0 (2 ^ length q) (pow-pos (length q)))
 
--- the response in the set of a task's processor
-pub response-placed : {n : ℕ} {timing : List (List ℕ)} {q sets : List ℕ} → Placed n timing q sets → (k : ℕ)
-    → response (tasksOf n timing) (has (getD sets (getD q k 0) 0)) k ≡ responseOf (tasksOf n timing) q k
-response-placed {n} {timing} {q} {sets} w k = ap (λ (on : ℕ → Bool). response (tasksOf n timing) on k) same
+-- response and margin by the worst response in the set of a task's processor
+pub times-placed : {n : ℕ} {timing : List (List ℕ)} {q sets : List ℕ} → Placed n timing q sets → (k : ℕ) {worst : ℕ}
+    → worst ≡ worstResponse (tasksOf n timing) (has (getD sets (getD q k 0) 0)) k
+    → (upTo (tasksOf n timing .D k) worst ≡ responseOf (tasksOf n timing) q k) × (marginBy (tasksOf n timing .D k) worst ≡ marginOf (tasksOf n timing) (alongside q k) k)
+unfolding response
+times-placed {n} {timing} {q} {sets} w k {worst} e = rw (e ∙ ap (λ (on : ℕ → Bool). worstResponse (tasksOf n timing) on k) same) (refl, refl)
   where
-    same : has (getD sets (getD q k 0) 0) ≡ (λ j. placed q j (getD q k 0))
+    same : has (getD sets (getD q k 0) 0) ≡ alongside q k
     same = ap (λ (l : List ℕ). has (getD l (getD q k 0) 0)) (w .on) ∙ fun-ext (λ j. ap (λ (on : ℕ → ℕ → Bool). on j (getD q k 0)) (sets-placed q (w .placeable)))
 
 module _ {t : Table} (s : Sound t) {q : List ℕ} (w : PlacementOf t q) where

@@ -4,11 +4,13 @@ use mathlib.Core.Logic.{_≢_, _↔_}
 use mathlib.Core.List.{List}
 use Prim.Native.Nat.{ℕ, _≤_, _<_}
 use native.Mathlib.Omega.{arith}
-use native.Mathlib.Decide.{ℕ-discrete}
+use native.Mathlib.Decide.{ℕ-discrete, decLt}
 use borrow.Author.Tests.{lt-ltb, le-ltb, eq-eqb, ne-eqb}
 use lib.Dec.{T, leb, ltb, eqb, eqb→eq, eqb-refl, leb→le, le→leb, lt→ltb}
-use lib.ListN.{length, getD}
-use Rattle.finite.specs.Finite.{firstBelow}
+use lib.IntN.{pos}
+use lib.ListN.{length, getD, List·getD-eq-default}
+use Rattle.finite.specs.Finite.{firstBelow, tabulate}
+use Rattle.finite.proofs.Tabulate.{getD-tabulate, length-tabulate}
 use Rattle.finite.proofs.Search.{FirstBelow, first-below, lowest, nowhere, lowest-same}
 use Rattle.mask.proofs.Tests.{and-both, and-right}
 use Rattle.wire.specs.Wire.{Bytes}
@@ -23,8 +25,11 @@ use Rattle.table.proofs.Causes.{cause-range, same-cause}
 use Rattle.table.proofs.Columns.{column-length, column-in, column-beyond}
 use Rattle.table.proofs.Sound.{read-sound}
 use Rattle.schedule.specs.Periodic.{LateTask, LateSet}
-use Rattle.schedule.specs.Response.{response}
-use Rattle.schedule.proofs.LateSets.{response-least, late-task, late-set}
+use Rattle.schedule.specs.Response.{worstResponse, response}
+use Rattle.schedule.specs.declared.Margin.the-variants.{Known}
+use Rattle.schedule.specs.Margin.{marginOf}
+use Rattle.schedule.proofs.LateSets.{worst-least, response-least, late-task, late-set}
+use Rattle.schedule.proofs.Signed.{margin-is, margin-in-time}
 use Rattle.timing.specs.Timing.{tasksIn}
 use Rattle.timing.proofs.Limits.{valid-tasks, constrained-tasks}
 use Rattle.rules.specs.declared.Rule.{Rule}
@@ -38,9 +43,10 @@ use Rattle.rules.proofs.Order.{same-rule, numbers, BrokenFirst, Finds, none, on
 use Rattle.judge.specs.declared.Judgement.{Judgement}
 use Rattle.judge.specs.declared.Judgement.the-variants.{Refused, Kept, Broken}
 use Rattle.judge.specs.declared.Judged.{Judged}
-use Rattle.judge.specs.Judge.{PlacementOf, firstUnknown, alongside, responsesOf, judgementBy, judgedPlacement, refusedJudgement, judgedOn, judgeOf, judgementNumber, concernedOf}
+use Rattle.judge.specs.declared.TaskMargin.{TaskMargin}
+use Rattle.judge.specs.Judge.{PlacementOf, firstUnknown, alongside, responsesOf, knownZero, marginAt, marginsOf, judgementBy, judgedPlacement, refusedJudgement, judgedOn, judgeOf, judgementNumber, concernedOf}
 use Rattle.judge.specs.Good.{Good}
-use Rattle.judge.specs.Meaning.{Reads, FirstUnknown, JudgeRefuses, unreadable, wrong-length, unknown-processor, Breaks, FirstBroken, Responses, JudgeMeans}
+use Rattle.judge.specs.Meaning.{Reads, FirstUnknown, JudgeRefuses, unreadable, wrong-length, unknown-processor, Breaks, FirstBroken, Responses, Margins, JudgeMeans}
 use Rattle.judge.proofs.Limits.{all-known}
 
 -- ---- 13, 14, and what is left
@@ -67,7 +73,7 @@ judging t q = go (ℕ-discrete (length q) (t .tasks .count)) (first-below (lengt
 unknown-placement : {t : Table} {q : List ℕ} {k : ℕ} → FirstUnknown t q k → PlacementOf t q → ⊥
 unknown-placement {k = k} u w = omega (arith, u .unknown, w .known k (u .inside))
 
--- ---- the responses, and 107 in the tick run
+-- ---- responses and margins, and 107 in the tick run
 
 module _ {t : Table} (s : Sound t) {q : List ℕ} (w : PlacementOf t q) where
   response-at : (k : ℕ) → k < t .tasks .count → getD (responsesOf t q) k 0 ≡ response (tasksIn t) (alongside q k) k
@@ -78,9 +84,40 @@ module _ {t : Table} (s : Sound t) {q : List ℕ} (w : PlacementOf t q) where
   unfolding responsesOf
   right-responses = record {
     long = column-length 24 (t .tasks .count) (λ i. response (tasksIn t) (alongside q i) i);
-    least = λ k l. rw (response-at k l) (response-least (tasksIn t) (valid-tasks s) (alongside q k) k l);
+    least = λ k l. rw (response-at k l) (response-least (tasksIn t) (valid-tasks s) (alongside q k) k l (constrained-tasks s k l));
     beyond = column-beyond 24 (t .tasks .count) (λ i. response (tasksIn t) (alongside q i) i);
   }
+
+  margin-at : (k : ℕ) → k < t .tasks .count → getD (marginsOf t q) k knownZero .margin ≡ marginOf (tasksIn t) (alongside q k) k
+  unfolding marginsOf
+  margin-at k l = rw (getD-tabulate 24 (marginAt (t .tasks .count) (tasksIn t) q) k knownZero (omega (arith, s .tasks .most)), lt-ltb k (t .tasks .count) l) refl
+
+  margin-past : (k : ℕ) → t .tasks .count ≤ k → getD (marginsOf t q) k knownZero ≡ knownZero
+  unfolding marginsOf
+  margin-past k l = go (decLt k 24)
+    where
+      go : Dec (k < 24) → getD (tabulate 24 (marginAt (t .tasks .count) (tasksIn t) q)) k knownZero ≡ knownZero
+      go (yes h) = rw (getD-tabulate 24 (marginAt (t .tasks .count) (tasksIn t) q) k knownZero h, le-ltb k (t .tasks .count) l) refl
+      go (no h) = List·getD-eq-default (tabulate 24 (marginAt (t .tasks .count) (tasksIn t) q)) knownZero (omega (arith, length-tabulate 24 (marginAt (t .tasks .count) (tasksIn t) q)))
+
+  right-margins : Margins t q (marginsOf t q)
+  unfolding marginsOf
+  right-margins = record {
+    long = length-tabulate 24 (marginAt (t .tasks .count) (tasksIn t) q);
+    right = λ k l. rw (margin-at k l) (margin-is (tasksIn t .D k) (worst-least (tasksIn t) (valid-tasks s) (alongside q k) k l));
+    past = margin-past;
+  }
+
+  -- a task whose response is not 0 has a margin of at least 0, and so have the places past the tasks
+  margin-kept : ((k : ℕ) → k < t .tasks .count → T (missed (responsesOf t q) k) → ⊥) → (k : ℕ) → (x : ℕ) × (getD (marginsOf t q) k knownZero .margin ≡ Known (pos x))
+  unfolding response
+  margin-kept kept k = go (decLt k (t .tasks .count))
+    where
+      go : Dec (k < t .tasks .count) → (x : ℕ) × (getD (marginsOf t q) k knownZero .margin ≡ Known (pos x))
+      go (yes l) =
+          let some : response (tasksIn t) (alongside q k) k ≡ 0 → ⊥ = λ e. kept k l (rw (response-at k l ∙ e) tt) in
+          rw (margin-at k l) (margin-in-time (tasksIn t .D k) (worstResponse (tasksIn t) (alongside q k) k) (omega arith))
+      go (no l) = (0, ap (λ (m : TaskMargin). m .margin) (margin-past k (omega arith)))
 
   -- a task stands on its own processor
   itself : (k : ℕ) → k < t .tasks .count → T (alongside q k k)
@@ -177,13 +214,21 @@ module _ {t : Table} (s : Sound t) (q : List ℕ) where
         go (of-byte u) = absurd (unknown-placement u (v .placement))
         go (of-rules w) = ap judgementBy (broken-first t (placed q) (missed (responsesOf t q)) (of-first s w v))
 
-  placement-responses : PlacementOf t q → Responses t q (judgedOn t q .responses)
-  placement-responses v = go (judging t q)
+  placement-times : PlacementOf t q → Responses t q (judgedOn t q .responses) × Margins t q (judgedOn t q .margins)
+  placement-times v = go (judging t q)
     where
-      go : {j : Judged} → Judging t q j → Responses t q (j .responses)
+      go : {j : Judged} → Judging t q j → Responses t q (j .responses) × Margins t q (j .margins)
       go (of-length d) = absurd (d (v .long))
       go (of-byte u) = absurd (unknown-placement u v)
-      go (of-rules w) = right-responses s w
+      go (of-rules w) = (right-responses s w, right-margins s w)
+
+  kept-margins : judgedOn t q .judgement ≡ Kept → (k : ℕ) → (x : ℕ) × (getD (judgedOn t q .margins) k knownZero .margin ≡ Known (pos x))
+  kept-margins e = go (judging t q) e
+    where
+      go : {j : Judged} → Judging t q j → j .judgement ≡ Kept → (k : ℕ) → (x : ℕ) × (getD (j .margins) k knownZero .margin ≡ Known (pos x))
+      go (of-length d) e = absurd (let z : _≡_ {A = ℕ} 0 1 = cc in omega arith)
+      go (of-byte u) e = absurd (let z : _≡_ {A = ℕ} 0 1 = cc in omega arith)
+      go (of-rules w) e = margin-kept s w (kept-keeps t (placed q) (missed (responsesOf t q)) (kept-check _ e) .1)
 
 -- ---- the judgement of a file
 
@@ -226,19 +271,19 @@ module _ (file q : List ℕ) where
       go (outcomes.Refused c p) h e = same (ap (λ (r : Judged). r .judgement) (sym (on-refused h)) ∙ e) (unreadable h)
       go outcomes.Readable h e = by h (judging t q) (ap (λ (r : Judged). r .judgement) (sym (on-table h)) ∙ e)
 
-  right-refused : {cause : Cause} {place : ℕ} → JudgeRefuses file q cause place → judgeOf file q .judgement ≡ Refused cause place
-  right-refused (unreadable h) = ap (λ (r : Judged). r .judgement) (on-refused h)
-  right-refused (wrong-length h) = ap (λ (r : Judged). r .judgement) (on-table (h .0)) ∙ go (judging t q)
+  right-refused : {cause : Cause} {place : ℕ} → JudgeRefuses file q cause place → judgeOf file q ≡ refusedJudgement cause place
+  right-refused (unreadable h) = on-refused h
+  right-refused (wrong-length h) = on-table (h .0) ∙ go (judging t q)
     where
-      go : {j : Judged} → Judging t q j → j .judgement ≡ Refused PlacementLength 0
+      go : {j : Judged} → Judging t q j → j ≡ refusedJudgement PlacementLength 0
       go (of-length d) = refl
       go (of-byte u) = absurd (h .1 (u .long))
       go (of-rules w) = absurd (h .1 (w .long))
-  right-refused (unknown-processor {k = k} h) = ap (λ (r : Judged). r .judgement) (on-table (h .0)) ∙ go (judging t q)
+  right-refused (unknown-processor {k = k} h) = on-table (h .0) ∙ go (judging t q)
     where
-      go : {j : Judged} → Judging t q j → j .judgement ≡ Refused UnknownProcessor k
+      go : {j : Judged} → Judging t q j → j ≡ refusedJudgement UnknownProcessor k
       go (of-length d) = absurd (d (h .1 .long))
-      go (of-byte u) = ap (Refused UnknownProcessor) (lowest-same (λ j. t .processors .count ≤ getD q j 0) (u .unknown) (u .lowest) (h .1 .unknown) (h .1 .lowest))
+      go (of-byte u) = ap (refusedJudgement UnknownProcessor) (lowest-same (λ j. t .processors .count ≤ getD q j 0) (u .unknown) (u .lowest) (h .1 .unknown) (h .1 .lowest))
       go (of-rules w) = absurd (unknown-placement (h .1) w)
 
 -- ---- the numbers
@@ -275,11 +320,14 @@ judge-meaning file b q = record {
   );
   refused = λ cause place. (
     λ e. refused-right file q cause place (same-judgement j (Refused cause place) (e .0) (e .1)),
-    λ h. let e = right-refused file q h in (ap judgementNumber e, ap concernedOf e),
+    λ h. let e = ap (λ (r : Judged). r .judgement) (right-refused file q h) in (ap judgementNumber e, ap concernedOf e),
   );
   kept-zero = λ e. ap concernedOf (zero-kept j e);
   network-zero = λ e. let h = right Network (concernedOf j) (same-judgement j (Broken Network (concernedOf j)) e refl) in omega (arith, h .1 .within);
-  responses = λ h. rw (on-table file q (h .0)) (placement-responses (sound (h .0)) q (h .1));
+  responses = λ h. rw (on-table file q (h .0)) (placement-times (sound (h .0)) q (h .1) .0);
+  margins = λ h. rw (on-table file q (h .0)) (placement-times (sound (h .0)) q (h .1) .1);
+  kept-margins = λ e. let h = judged-on file q Kept (λ c p. no-refusal-kept) .0 (zero-kept j e) in rw (on-table file q (h .0)) (kept-margins (sound (h .0)) q (h .1));
+  nothing = λ h. rw (right-refused file q h) (refl, refl);
 }
   where
     j : Judgement

@@ -4,8 +4,9 @@ use mathlib.Core.Bool.{Bool, cond}
 use mathlib.Core.List.{List}
 use Prim.Native.Nat.{ℕ, _<_}
 use lib.Dec.{leb, ltb, eqb}
+use lib.IntN.{pos}
 use lib.ListN.{length, getD, replicate}
-use Rattle.finite.specs.Finite.{firstBelow}
+use Rattle.finite.specs.Finite.{only, firstBelow, tabulate}
 use Rattle.verdict.specs.declared.Cause.{Cause}
 use Rattle.verdict.specs.declared.Cause.the-variants.{PlacementLength, UnknownProcessor}
 use Rattle.table.specs.declared.Outcome.{Outcome}
@@ -15,6 +16,8 @@ use Rattle.table.specs.Refusal.{causeNumber}
 use Rattle.table.specs.Table.{column, readOf}
 use Rattle.schedule.specs.Periodic.{Tasks}
 use Rattle.schedule.specs.Response.{response}
+use Rattle.schedule.specs.declared.Margin.the-variants.{Known}
+use Rattle.schedule.specs.Margin.{marginOf}
 use Rattle.timing.specs.Timing.{tasksIn}
 use Rattle.rules.specs.declared.Check.{Check}
 use Rattle.rules.specs.declared.Check.the-variants as checks
@@ -24,6 +27,9 @@ use Rattle.rules.specs.Sets.{missed}
 use Rattle.judge.specs.declared.Judgement.{Judgement}
 use Rattle.judge.specs.declared.Judgement.the-variants.{Refused, Kept, Broken}
 use Rattle.judge.specs.declared.Judged.{Judged}
+use Rattle.judge.specs.declared.TaskMargin.{TaskMargin}
+use Rattle.judge.specs.declared.TaskTimes.{TaskTimes}
+use Rattle.judge.specs.declared.Times.{Times}
 
 -- 01: a placement is n bytes, byte k the processor of task k
 pub record PlacementOf (t : Table) (q : List ℕ) : Type 0 where
@@ -46,17 +52,36 @@ responseOf s q k = response s (alongside q k) k
 unfoldable pub responsesOf : Table → List ℕ → List ℕ
 responsesOf t q = column 24 (t .tasks .count) (responseOf (tasksIn t) q)
 
+-- 02: places past the n tasks hold a known 0
+abbrev pub knownZero : TaskMargin
+knownZero = record { margin = Known (pos 0) }
+
+-- 02: the margin of task k among the tasks that stand on its processor
+abbrev pub marginAt : ℕ → Tasks → List ℕ → ℕ → TaskMargin
+marginAt n s q k = cond (ltb k n) (record { margin = marginOf s (alongside q k) k }) knownZero
+
+-- 02: beside each response the margin, whatever is broken
+unfoldable pub marginsOf : Table → List ℕ → List TaskMargin
+marginsOf t q = tabulate 24 (marginAt (t .tasks .count) (tasksIn t) q)
+
+-- both of one task, and of all
+abbrev pub timesAt : ℕ → Tasks → List ℕ → ℕ → TaskTimes
+timesAt n s q k = record { response = only (ltb k n) (responseOf s q k); margin = marginAt n s q k }
+
+abbrev pub timesOf : Table → List ℕ → Times
+timesOf t q = record { responses = responsesOf t q; margins = marginsOf t q }
+
 abbrev pub judgementBy : Check → Judgement
 judgementBy checks.Kept = Kept
 judgementBy (checks.Broken rule k) = Broken rule k
 
--- a placement that isn't refused: the first broken rule, 107 by a response of 0; beside it the responses, whatever is broken
+-- a placement that isn't refused: the first broken rule, 107 by a response of 0; beside it the responses and the margins, whatever is broken
 abbrev pub judgedPlacement : Table → List ℕ → Judged
-judgedPlacement t q = record { judgement = judgementBy (firstBroken t (placed q) (missed (responsesOf t q))); responses = responsesOf t q }
+judgedPlacement t q = record { judgement = judgementBy (firstBroken t (placed q) (missed (responsesOf t q))); responses = responsesOf t q; margins = marginsOf t q }
 
--- a refusal: the cause and its place, and no response
+-- a refusal: the cause and its place; no response, and no margin, as if there were no task
 abbrev pub refusedJudgement : Cause → ℕ → Judged
-refusedJudgement cause place = record { judgement = Refused cause place; responses = replicate 24 0 }
+refusedJudgement cause place = record { judgement = Refused cause place; responses = replicate 24 0; margins = replicate 24 knownZero }
 
 -- on a table that was read: 13, then 14, then the rules
 unfoldable pub judgedOn : Table → List ℕ → Judged

@@ -4,7 +4,8 @@ use mathlib.Core.Logic.{_≢_, _↔_}
 use mathlib.Core.List.{List}
 use Prim.Native.Nat.{ℕ, _≤_, _<_}
 use lib.Dec.{T}
-use lib.ListN.{length, getD}
+use lib.IntN.{pos}
+use lib.ListN.{length, getD, replicate}
 use Rattle.verdict.specs.declared.Cause.{Cause}
 use Rattle.verdict.specs.declared.Cause.the-variants.{PlacementLength, UnknownProcessor}
 use Rattle.table.specs.declared.Outcome.the-variants as outcomes
@@ -13,13 +14,16 @@ use Rattle.table.specs.Refusal.{causeNumber}
 use Rattle.table.specs.Table.{readOf}
 use Rattle.schedule.specs.Periodic.{LateTask}
 use Rattle.schedule.specs.Response.{demand, Least}
+use Rattle.schedule.specs.declared.Margin.the-variants.{Known}
+use Rattle.schedule.specs.Margin.{MarginIs}
 use Rattle.timing.specs.Timing.{tasksIn}
 use Rattle.rules.specs.declared.Rule.{Rule}
 use Rattle.rules.specs.declared.Rule.the-variants.{Residence, CoResidence, Exclusion, Memory, Utilisation, Network, Deadline}
 use Rattle.rules.specs.Placement.{placed}
 use Rattle.rules.specs.Rules.{ruleNumber, concerned, residenceBroken, coResidenceBroken, exclusionBroken, memoryBroken, utilisationBroken, networkBroken}
 use Rattle.judge.specs.declared.Judged.{Judged}
-use Rattle.judge.specs.Judge.{PlacementOf, alongside, judgementNumber, concernedOf}
+use Rattle.judge.specs.declared.TaskMargin.{TaskMargin}
+use Rattle.judge.specs.Judge.{PlacementOf, alongside, knownZero, judgementNumber, concernedOf}
 use Rattle.judge.specs.Good.{Good}
 
 -- the file can be read, and P is true of its table
@@ -63,6 +67,12 @@ pub record Responses (t : Table) (q responses : List ℕ) : Type 0 where
   pub least : (k : ℕ) → k < t .tasks .count → Least (demand (tasksIn t) (alongside q k) k) (tasksIn t .D k) (getD responses k 0)
   pub beyond : (k : ℕ) → t .tasks .count ≤ k → getD responses k 0 ≡ 0
 
+-- 02: n margins, one for each task: deadline minus the least solution, while that is at most the period; else beyond. Places past the n tasks hold a known 0.
+pub record Margins (t : Table) (q : List ℕ) (margins : List TaskMargin) : Type 0 where
+  pub long : length margins ≡ 24
+  pub right : (k : ℕ) → k < t .tasks .count → MarginIs (demand (tasksIn t) (alongside q k) k) (tasksIn t .D k) (tasksIn t .T k) (getD margins k knownZero .margin)
+  pub past : (k : ℕ) → t .tasks .count ≤ k → getD margins k knownZero ≡ knownZero
+
 -- what the judge answers on a file and a placement
 pub record JudgeMeans (file q : List ℕ) (r : Judged) : Type 0 where
   -- the answer is 0 exactly if the file is read and the placement keeps the rules and has no late job
@@ -76,5 +86,10 @@ pub record JudgeMeans (file q : List ℕ) (r : Judged) : Type 0 where
   -- beside answer 0 the number concerned is 0, and beside 106
   pub kept-zero : judgementNumber (r .judgement) ≡ 0 → concernedOf (r .judgement) ≡ 0
   pub network-zero : judgementNumber (r .judgement) ≡ 106 → concernedOf (r .judgement) ≡ 0
-  -- beside the answer, for every placement that isn't refused, whatever rules it breaks, stand the responses
+  -- beside the answer, for every placement that isn't refused, whatever rules it breaks, stand the responses and the margins
   pub responses : Reads file (λ t. PlacementOf t q) → Responses (readOf file .table) q (r .responses)
+  pub margins : Reads file (λ t. PlacementOf t q) → Margins (readOf file .table) q (r .margins)
+  -- beside answer 0 every margin is known and at least 0
+  pub kept-margins : judgementNumber (r .judgement) ≡ 0 → (k : ℕ) → (x : ℕ) × (getD (r .margins) k knownZero .margin ≡ Known (pos x))
+  -- beside a refusal all are as if there were no task
+  pub nothing : {cause : Cause} {place : ℕ} → JudgeRefuses file q cause place → (r .responses ≡ replicate 24 0) × (r .margins ≡ replicate 24 knownZero)

@@ -4,7 +4,10 @@ use mathlib.Core.List.{List, [], _++_}
 use Prim.Native.Nat.{ℕ}
 use Rattle.wire.specs.Wire.{pieces}
 use Rattle.mask.specs.Mask.{has}
-use Rattle.text.specs.Text.{ascii, decimal}
+use Rattle.schedule.specs.declared.Margin.{Margin}
+use Rattle.schedule.specs.declared.Margin.the-variants.{Known, Beyond}
+use Rattle.text.specs.Text.{ascii, decimal, signed}
+use Rattle.lines.specs.declared.Stand.{Stand}
 
 -- a word and a number
 abbrev pub item : List ℕ → ℕ → List ℕ
@@ -14,9 +17,16 @@ item word x = word ++ decimal x
 abbrev pub spaced : ℕ → List ℕ
 spaced x = item (ascii " ") x
 
--- 01: task lines give task, processor, response and deadline
-abbrev pub taskLine : ℕ → ℕ → ℕ → ℕ → List ℕ
-taskLine k p r d = item (ascii "task ") k ++ item (ascii " on ") p ++ item (ascii " response ") r ++ item (ascii " deadline ") d ++ ascii "\n"
+-- 02: a margin is a signed number, or the mark for "beyond"
+abbrev pub marginText : Margin → List ℕ
+marginText (Known x) = signed x
+marginText Beyond = ascii "beyond"
+
+-- 01: task lines give task, processor, response and deadline; 02: they end in `margin` and this
+abbrev pub taskLine : Stand → List ℕ
+taskLine s =
+    item (ascii "task ") (s .task) ++ item (ascii " on ") (s .processor) ++ item (ascii " response ") (s .response) ++ item (ascii " deadline ") (s .deadline)
+    ++ ascii " margin " ++ marginText (s .margin) ++ ascii "\n"
 
 -- a word and two numbers
 abbrev pub pairLine : List ℕ → ℕ → ℕ → List ℕ

@@ -2,7 +2,8 @@
 ghost use Prim.Native.Nat.{_+_, _≤_, _<_};
 ghost use lib.ListN.{length};
 ghost use Rattle.wire.specs.Wire.{Put};
-ghost use Rattle.lines.specs.Lines.{item, taskLine, pairLine, loadLine, member, conflictLine, refusedLine};
+ghost use Rattle.lines.specs.Lines.{item, marginText, taskLine, pairLine, loadLine, member, conflictLine, refusedLine};
+use schedule::Margin;
 
 const LF: [u8; 1] = *b"\n";
 
@@ -16,11 +17,24 @@ const RESPONSE: [u8; 10] = *b" response ";
 
 const DEADLINE: [u8; 10] = *b" deadline ";
 
+const MARGIN: [u8; 8] = *b" margin ";
+
+const BEYOND: [u8; 6] = *b"beyond";
+
 const LOAD: [u8; 5] = *b"load ";
 
 const CONFLICT: [u8; 8] = *b"conflict";
 
 const REFUSED: [u8; 8] = *b"refused ";
+
+// Where a task stands, and how it fares there.
+pub struct Stand {
+    pub task: usize,
+    pub processor: u8,
+    pub response: u32,
+    pub deadline: u32,
+    pub margin: Margin,
+}
 
 // Puts a word and a number.
 fn put_item(text: &mut [u8], at: usize, word: &[u8], x: u64) -> usize
@@ -31,15 +45,29 @@ fn put_item(text: &mut [u8], at: usize, word: &[u8], x: u64) -> usize
     text::put_decimal(text, end, x)
 }
 
-// The line of a task: its processor, response and deadline.
-pub fn task_line(text: &mut [u8], at: usize, k: usize, p: u8, response: u32, deadline: u32) -> usize
-    requires { ⌜ at + 128 ≤ length (now text) ⌝ }
-    ensures { λ r. ⌜ Put (now (text .entry)) at (taskLine k p response deadline) (now (text .exit)) r × (r ≤ at + 128) ⌝ }
+// Puts a margin: a number with its sign, or the mark.
+fn put_margin(text: &mut [u8], at: usize, margin: Margin) -> usize
+    requires { ⌜ at + 21 ≤ length (now text) ⌝ }
+    ensures { λ r. ⌜ Put (now (text .entry)) at (marginText margin) (now (text .exit)) r × (r ≤ at + 21) ⌝ }
 {
-    let task = put_item(text, at, &TASK, k as u64);
-    let on = put_item(text, task, &ON, p as u64);
-    let within = put_item(text, on, &RESPONSE, response as u64);
-    let end = put_item(text, within, &DEADLINE, deadline as u64);
+    match margin {
+        Margin::Known(x) => text::put_signed(text, at, x),
+        Margin::Beyond => text::put(text, at, &BEYOND),
+    }
+}
+
+// The line of a task: where it stands, and how it fares there.
+pub fn task_line(text: &mut [u8], at: usize, stand: Stand) -> usize
+    requires { ⌜ at + 192 ≤ length (now text) ⌝ }
+    ensures { λ r. ⌜ Put (now (text .entry)) at (taskLine stand) (now (text .exit)) r × (r ≤ at + 192) ⌝ }
+{
+    let margin = stand.margin;
+    let task = put_item(text, at, &TASK, stand.task as u64);
+    let on = put_item(text, task, &ON, stand.processor as u64);
+    let within = put_item(text, on, &RESPONSE, stand.response as u64);
+    let left = put_item(text, within, &DEADLINE, stand.deadline as u64);
+    let word = text::put(text, left, &MARGIN);
+    let end = put_margin(text, word, margin);
     text::put(text, end, &LF)
 }
 

@@ -8,14 +8,26 @@ use Rattle.wire.specs.Wire.{markAt, pieces}
 use Rattle.table.specs.declared.Table.{Table}
 use Rattle.rules.specs.Placement.{placed}
 use Rattle.rules.specs.Rules.{loadOn}
-use Rattle.judge.specs.Judge.{judgeOf}
+use Rattle.judge.specs.declared.Judged.{Judged}
+use Rattle.judge.specs.Judge.{knownZero, judgeOf}
 use Rattle.answer.specs.Answer.{maskAt}
 use Rattle.text.specs.Text.{ascii}
+use Rattle.lines.specs.declared.Stand.{Stand}
 use Rattle.lines.specs.Lines.{taskLine, loadLine, conflictLine}
 
--- 01: task lines give task, processor, response and deadline
-abbrev pub taskLines : List ℕ → List ℕ → List ℕ → List ℕ
-taskLines q responses deadlines = pieces (length q) (λ k. taskLine k (getD q k 0) (getD responses k 0) (getD deadlines k 0))
+-- where task k stands, and how it fares there by the judgement
+abbrev pub standOf : List ℕ → Judged → List ℕ → ℕ → Stand
+standOf q j deadlines k = record {
+  task = k;
+  processor = getD q k 0;
+  response = getD (j .responses) k 0;
+  deadline = getD deadlines k 0;
+  margin = getD (j .margins) k knownZero .margin;
+}
+
+-- 01: task lines give task, processor, response and deadline; 02: and the margin
+abbrev pub taskLines : List ℕ → Judged → List ℕ → List ℕ
+taskLines q j deadlines = pieces (length q) (λ k. taskLine (standOf q j deadlines k))
 
 -- 01: its load in thousandths of H, rounded down
 abbrev pub thousandths : Table → List ℕ → ℕ → ℕ
@@ -25,9 +37,9 @@ thousandths t q p = 1000 * loadOn t (placed q) p / t .hyperperiod
 abbrev pub loadLines : Table → List ℕ → List ℕ
 loadLines t q = pieces (t .processors .count) (λ p. loadLine p (thousandths t q p))
 
--- the lines of a placement; the responses are those of its judgement
+-- the lines of a placement; the responses and the margins are those of its judgement
 abbrev pub placementLines : List ℕ → Table → List ℕ → List ℕ
-placementLines file t q = taskLines q (judgeOf file q .responses) (t .tasks .d) ++ loadLines t q
+placementLines file t q = taskLines q (judgeOf file q) (t .tasks .d) ++ loadLines t q
 
 -- 01: with no placement the first line is `none` and task and load lines are absent
 abbrev pub headLines : Bool → List ℕ → Table → List ℕ → List ℕ

@@ -7,6 +7,8 @@ ghost use Rattle.rules.specs.Placement.{placed};
 ghost use Rattle.rules.specs.Rules.{loadOn};
 ghost use Rattle.wire.specs.Wire.{Put};
 ghost use Rattle.report.specs.Report.{taskLines, loadLines, placementLines, headLines, conflictLines, lastLine, answerLines};
+use judge::Judged;
+use lines::Stand;
 use load::Load;
 use table::Table;
 
@@ -23,16 +25,27 @@ fn put_tasks<'a>(
     text: &mut [u8],
     at: usize,
     placement: &'a [u8],
-    responses: &'a [u32; 24],
+    judged: Judged,
     deadlines: &'a [u32; 24],
 ) -> usize
-    requires { ⌜ (at + 3072 ≤ length (now text)) × (length (now placement) ≤ 24) ⌝ }
-    ensures { λ r. ⌜ Put (now (text .entry)) at (taskLines (now (placement .entry)) (now (responses .entry)) (now (deadlines .entry))) (now (text .exit)) r × (r ≤ at + 3072) ⌝ }
+    requires { ⌜ (at + 4608 ≤ length (now text)) × (length (now placement) ≤ 24) ⌝ }
+    ensures { λ r. ⌜ Put (now (text .entry)) at (taskLines (now (placement .entry)) judged (now (deadlines .entry))) (now (text .exit)) r × (r ≤ at + 4608) ⌝ }
 {
+    let responses = judged.responses;
+    let margins = judged.margins;
     let mut end = at;
     let mut k: usize = 0;
     while k < placement.len() {
-        end = lines::task_line(text, end, k, placement[k], responses[k], deadlines[k]);
+        let beside = margins[k];
+        let margin = beside.margin;
+        let stand = Stand {
+            task: k,
+            processor: placement[k],
+            response: responses[k],
+            deadline: deadlines[k],
+            margin,
+        };
+        end = lines::task_line(text, end, stand);
         k += 1;
     }
     end
@@ -73,21 +86,20 @@ fn put_loads(text: &mut [u8], at: usize, table: Table, placement: &[u8]) -> usiz
 
 // The lines of a placement.
 fn put_placement(text: &mut [u8], at: usize, file: &[u8], table: Table, placement: &[u8]) -> usize
-    requires { ⌜ (at + 4096 ≤ length (now text)) × Sound table × (length (now placement) ≡ table .tasks .count) ⌝ }
-    ensures { λ r. ⌜ Put (now (text .entry)) at (placementLines (now (file .entry)) table (now (placement .entry))) (now (text .exit)) r × (r ≤ at + 4096) ⌝ }
+    requires { ⌜ (at + 5632 ≤ length (now text)) × Sound table × (length (now placement) ≡ table .tasks .count) ⌝ }
+    ensures { λ r. ⌜ Put (now (text .entry)) at (placementLines (now (file .entry)) table (now (placement .entry))) (now (text .exit)) r × (r ≤ at + 5632) ⌝ }
 {
     let judged = judge::judge(file, placement);
-    let responses = judged.responses;
     let tasks = table.tasks;
     let deadlines = tasks.d;
-    let end = put_tasks(text, at, placement, &responses, &deadlines);
+    let end = put_tasks(text, at, placement, judged, &deadlines);
     put_loads(text, end, table, placement)
 }
 
 // The first line, and the lines of the placement where there is one.
 fn put_head(text: &mut [u8], file: &[u8], table: Table, found: bool, placement: &[u8]) -> usize
-    requires { ⌜ (4224 ≤ length (now text)) × Sound table × (length (now placement) ≡ table .tasks .count) ⌝ }
-    ensures { λ r. ⌜ Put (now (text .entry)) 0 (headLines found (now (file .entry)) table (now (placement .entry))) (now (text .exit)) r × (r ≤ 4224) ⌝ }
+    requires { ⌜ (5760 ≤ length (now text)) × Sound table × (length (now placement) ≡ table .tasks .count) ⌝ }
+    ensures { λ r. ⌜ Put (now (text .entry)) 0 (headLines found (now (file .entry)) table (now (placement .entry))) (now (text .exit)) r × (r ≤ 5760) ⌝ }
 {
     if !found {
         return text::put(text, 0, &NONE);

@@ -3,11 +3,12 @@ use mathlib.Core.Path.{_≡_, refl}
 use Prim.Native.Nat.{ℕ, zero, suc, _+_, _≤_, _<_}
 use native.Mathlib.Omega.{arith}
 use native.Mathlib.Nat.{le-of-suc-le-suc, lt-of-not-le}
-use native.Mathlib.Decide.{ℕ-discrete}
+use native.Mathlib.Decide.{ℕ-discrete, decLe}
+use borrow.Author.Tests.{le-leb, lt-leb}
 use lib.Dec.{T, eqb, eqb→eq, eqb-refl}
 use Rattle.finite.specs.Finite.{firstFrom}
 use Rattle.finite.proofs.First.{First, first, found, missing}
-use Rattle.schedule.specs.Response.{leastSolution, Least, solved, unsolved}
+use Rattle.schedule.specs.Response.{leastSolution, Least, solved, unsolved, upTo}
 
 -- x is on the way to the least solution: at most f x, and at most each z with f z ≤ z
 pub record Iterate (f : ℕ → ℕ) (x : ℕ) : Type 0 where
@@ -58,3 +59,18 @@ module _ (f : ℕ → ℕ) (rises : (x y : ℕ) → x ≤ y → f x ≤ f y) (po
 
   pub exceeded : (d x : ℕ) → Iterate f x → d < x → leastSolution f d ≡ 0
   exceeded d x o l = least-unique f d (leastSolution f d) 0 (least-solution d) (unsolved refl (λ v k. omega (arith, o .below v k)))
+
+  -- the least solution up to t tells the one up to d
+  pub least-cut : (d t : ℕ) → d ≤ t → leastSolution f d ≡ upTo d (leastSolution f t)
+  least-cut d t l = least-unique f d (leastSolution f d) (upTo d (leastSolution f t)) (least-solution d) (go (least-solution t) (decLe (leastSolution f t) d))
+    where
+      go : Least f t (leastSolution f t) → Dec (leastSolution f t ≤ d) → Least f d (upTo d (leastSolution f t))
+      go (solved p b e h) (yes k) = rw (le-leb (leastSolution f t) d k) (solved p k e h)
+      go (solved p b e h) (no n) = rw (lt-leb (leastSolution f t) d (omega arith)) (unsolved refl (λ v q. omega (arith, h v q)))
+      go (unsolved e h) (yes k) = rw (le-leb (leastSolution f t) d k) (unsolved e (λ v q. omega (arith, h v q)))
+      go (unsolved e h) (no n) = absurd (omega arith)
+
+-- it is at most d
+pub least-small : {f : ℕ → ℕ} {d r : ℕ} → Least f d r → r ≤ d
+least-small (solved p b e h) = b
+least-small (unsolved e h) = omega arith

@@ -1,5 +1,5 @@
 -- Periodic tasks, released together: the tick run and the response equation agree. Assumes nothing.
---     first-job-ends  the response is the end of the task's first job
+--     first-job-ends  the worst response is the end of the task's first job
 --     late-task       deadline of at most the period: a task of the set has a late job exactly if its response is 0
 --     late-set        deadlines of at most the period: the set is late exactly if a member has response 0
 --     late-test       so a test tells whether a set is late
@@ -19,12 +19,12 @@ use Rattle.finite.proofs.Sum.{sum-le, sum-ext}
 use Rattle.finite.proofs.Some.{some-intro, some-elim}
 use Rattle.schedule.specs.Run.{service}
 use Rattle.schedule.specs.Periodic.{Tasks, Valid, Constrained, run, LateJob, LateTask, LateSet}
-use Rattle.schedule.specs.Response.{ceil, share, demand, response, Least, solved, unsolved, lateTest}
+use Rattle.schedule.specs.Response.{ceil, share, demand, leastSolution, worstResponse, response, Least, solved, unsolved, lateTest}
 use Rattle.schedule.specs.Arrays.{Says}
 use Rattle.mask.proofs.Tests.{and-both, and-left, and-right}
 use Rattle.schedule.proofs.Only.{only-and, only-in, only-le, only-none}
 use Rattle.schedule.proofs.Ceil.{any-window, ceil-covers, ceil-even, ceil-le, ceil-mono, ceil-odd, ceil-suc, ceil-zero}
-use Rattle.schedule.proofs.FixedPoint.{least-solution}
+use Rattle.schedule.proofs.FixedPoint.{Iterate, least-solution, least-cut}
 use Rattle.schedule.proofs.TaskRun.{released, taskService}
 use Rattle.schedule.proofs.LevelLemma.{higherWork, released-stream, sumHigher}
 use Rattle.schedule.proofs.JobService.{behind-late, job-service, late-behind}
@@ -109,9 +109,23 @@ module _ (s : Tasks) (valid : Valid s) (on : ℕ → Bool) where
   unfolding demand
   demand-works i x l = omega (arith, valid .works i l)
 
-  pub response-least : (i : ℕ) → i < s .count → Least (demand s on i) (s .D i) (response s on i)
-  unfolding response
-  response-least i l = least-solution (demand s on i) (demand-rises i) (λ x. demand-works i x l) (s .D i)
+  -- the calculation starts from C
+  pub demand-start : (i : ℕ) → Iterate (demand s on i) (s .C i)
+  unfolding demand
+  demand-start i = record { grows = omega arith; below = λ z h. omega arith }
+
+  -- the worst response is the least solution up to the period
+  pub worst-least : (i : ℕ) → i < s .count → Least (demand s on i) (s .T i) (worstResponse s on i)
+  unfolding worstResponse
+  worst-least i l = least-solution (demand s on i) (demand-rises i) (λ x. demand-works i x l) (s .T i)
+
+  -- with a deadline within the period the response is the least solution up to the deadline
+  pub response-cut : (i : ℕ) → i < s .count → s .D i ≤ s .T i → leastSolution (demand s on i) (s .D i) ≡ response s on i
+  unfolding response worstResponse
+  response-cut i l short = least-cut (demand s on i) (demand-rises i) (λ x. demand-works i x l) (s .D i) (s .T i) short
+
+  pub response-least : (i : ℕ) → i < s .count → s .D i ≤ s .T i → Least (demand s on i) (s .D i) (response s on i)
+  response-least i l short = rw (response-cut i l short) at (least-solution (demand s on i) (demand-rises i) (λ x. demand-works i x l) (s .D i))
 
   -- ---- a task of the set
 
@@ -135,7 +149,7 @@ module _ (s : Tasks) (valid : Valid s) (on : ℕ → Bool) where
         (k / s .T i, omega (arith, jobs k), omega (arith, div-mul-le-self k (s .T i), mul-le-mul-left (k / s .T i) within)))
 
     in-time-of-response : 0 < response s on i → (r : ℕ) → LateJob s on i r → ⊥
-    in-time-of-response p r late = go (response-least i task)
+    in-time-of-response p r late = go (response-least i task short)
       where
         go : Least (demand s on i) (s .D i) (response s on i) → ⊥
         go (solved q b e h) =
@@ -149,7 +163,7 @@ module _ (s : Tasks) (valid : Valid s) (on : ℕ → Bool) where
 
     late-of-response : response s on i ≡ 0 → LateJob s on i 0
     unfolding demand
-    late-of-response z = go (decLt (taskService (run s on) (s .D i) i) (s .C i)) (response-least i task)
+    late-of-response z = go (decLt (taskService (run s on) (s .D i) i) (s .C i)) (response-least i task short)
       where
         go : Dec (taskService (run s on) (s .D i) i < s .C i) → Least (demand s on i) (s .D i) (response s on i) → LateJob s on i 0
         go (yes h) r =
@@ -163,28 +177,28 @@ module _ (s : Tasks) (valid : Valid s) (on : ℕ → Bool) where
     pub late-task : LateTask s on i ↔ (response s on i ≡ 0)
     late-task = (λ q. zero-unless (response s on i) (λ p. in-time-of-response p (q .0) (q .1)), λ z. (0, late-of-response z))
 
-    -- the first job is finished before tick x exactly if x is at least the response
-    pub first-job-ends : (x : ℕ) → 0 < response s on i → (s .C i ≤ service (run s on) x i 0) ↔ (response s on i ≤ x)
+    -- the first job is finished before tick x exactly if x is at least the worst response, late or not
+    pub first-job-ends : (x : ℕ) → 0 < worstResponse s on i → (s .C i ≤ service (run s on) x i 0) ↔ (worstResponse s on i ≤ x)
     unfolding demand sumTo
-    first-job-ends x p = go (response-least i task)
+    first-job-ends x p = go (worst-least i task)
       where
         part-of : service (run s on) x i 0 ≤ taskService (run s on) x i
         part-of = omega (arith, job-service (run s on) x i 0)
 
-        go : Least (demand s on i) (s .D i) (response s on i) → (s .C i ≤ service (run s on) x i 0) ↔ (response s on i ≤ x)
+        go : Least (demand s on i) (s .T i) (worstResponse s on i) → (s .C i ≤ service (run s on) x i 0) ↔ (worstResponse s on i ≤ x)
         go (unsolved e h) = absurd (omega arith)
         go (solved q b e h) = (
           (λ d.
               let y = service-needs (run s on) (valid .distinct) i task (s .C i) x (omega (arith, part-of)) in
               omega (arith, y .1, h (y .0) (omega (arith, y .2, shares-run i (y .0))))),
           (λ k.
-              let done : released (run s on .release i) 1 ≤ taskService (run s on) (response s on i) i
-              = rw (zero-add (response s on i)) at (done-by (response s on i) (omega arith) (omega arith) 0) in
+              let done : released (run s on .release i) 1 ≤ taskService (run s on) (worstResponse s on i) i
+              = rw (zero-add (worstResponse s on i)) at (done-by (worstResponse s on i) (omega arith) (omega arith) 0) in
               omega (
                 arith,
                 first-job,
                 job-service (run s on) x i 0,
-                service-stays (run s on) (valid .distinct) i task (s .C i) (response s on i) x k (omega (arith, first-work)),
+                service-stays (run s on) (valid .distinct) i task (s .C i) (worstResponse s on i) x k (omega (arith, first-work)),
               )),
         )
 
@@ -257,7 +271,7 @@ module _ (s : Tasks) (valid : Valid s) (short : Constrained s) (small large : �
   pub late-within : LateSet s small → LateSet s large
   late-within q =
       let e = late-set s valid small short .0 q in
-      late-set s valid large short .1 (e .0, e .1, within (e .0) (e .2), go (e .0) (e .3) (response-least s valid small (e .0) (e .1)) (response-least s valid large (e .0) (e .1)))
+      late-set s valid large short .1 (e .0, e .1, within (e .0) (e .2), go (e .0) (e .3) (response-least s valid small (e .0) (e .1) (short (e .0) (e .1))) (response-least s valid large (e .0) (e .1) (short (e .0) (e .1))))
     where
       go : (i : ℕ) → response s small i ≡ 0 → Least (demand s small i) (s .D i) (response s small i) → Least (demand s large i) (s .D i) (response s large i) → response s large i ≡ 0
       go i z a (unsolved e h) = e

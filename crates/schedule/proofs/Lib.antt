@@ -12,3 +12,4 @@ pub mod Says
 pub mod Shares
 pub mod TasksOfArrays
 pub mod ResponseLoop
+pub mod Signed

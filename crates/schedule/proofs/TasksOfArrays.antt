@@ -21,7 +21,7 @@ use Rattle.schedule.proofs.LateSets.{late-set}
 use Rattle.finite.proofs.Tabulate.{getD-tabulate}
 
 module _ {n : ℕ} {rows : List (List ℕ)} {set : ℕ} (a : InLimits n rows set) where
-  work-in-period : (i : ℕ) → i < n → getD (workRow rows) i 0 ≤ getD (periodRow rows) i 0
+  pub work-in-period : (i : ℕ) → i < n → getD (workRow rows) i 0 ≤ getD (periodRow rows) i 0
   work-in-period i l = omega (arith, a .in-deadline i l, a .in-period i l)
 
   pub valid-of : Valid (tasksOf n rows)
@@ -70,7 +70,7 @@ module _ {n : ℕ} {rows : List (List ℕ)} {set : ℕ} (a : InLimits n rows set
   higher-at : (i : ℕ) → i < n → getD (higherRow rows) i 0 ≡ higherThan n (priorityRow rows) i
   higher-at i l =
       ap (λ (h : List ℕ). getD h i 0) (a .ranked)
-      ∙ getD-tabulate 24 (λ k. only (ltb k n) (higherThan n (priorityRow rows) k)) i (omega (arith, a .few))
+      ∙ getD-tabulate 24 (λ k. only (ltb k n) (higherThan n (priorityRow rows) k)) i 0 (omega (arith, a .few))
       ∙ only-in (ltb i n) (higherThan n (priorityRow rows) i) (lt→ltb i n l)
 
   others-has : (i : ℕ) → i < n → (j : ℕ) → has (bitAnd set (getD (higherRow rows) i 0)) j ≡ (has set j && (ltb j n && ltb (getD (priorityRow rows) i 0) (getD (priorityRow rows) j 0)))

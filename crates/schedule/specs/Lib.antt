@@ -1,4 +1,5 @@
 pub mod Run
 pub mod Periodic
 pub mod Response
+pub mod Margin
 pub mod Arrays

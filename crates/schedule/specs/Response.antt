@@ -2,7 +2,7 @@
 use mathlib.Core.Path.{_≡_}
 use mathlib.Core.Bool.{Bool, _&&_}
 use Prim.Native.Nat.{ℕ, _+_, _-_, _*_, _/_, _≤_, _<_}
-use lib.Dec.{ltb, eqb}
+use lib.Dec.{ltb, leb, eqb}
 use Rattle.finite.specs.Finite.{only, sumTo, someBelow, firstFrom}
 use Rattle.schedule.specs.Periodic.{Tasks}
 
@@ -28,9 +28,17 @@ pub data Least (f : ℕ → ℕ) (d r : ℕ) : Type 0 where
   solved : 0 < r → r ≤ d → f r ≡ r → ((v : ℕ) → f v ≤ v → r ≤ v) → Least f d r
   unsolved : r ≡ 0 → ((v : ℕ) → f v ≤ v → d < v) → Least f d r
 
+-- 02, 2026-01: the response calculation carries on up to the period; the least solution where it is at most the period, 0 where it is beyond
+unfoldable pub worstResponse : Tasks → (ℕ → Bool) → ℕ → ℕ
+worstResponse s on i = leastSolution (demand s on i) (s .T i)
+
+-- x where it is at most d, else 0
+abbrev pub upTo : ℕ → ℕ → ℕ
+upTo d x = only (leb x d) x
+
 -- 01: the least solution is the response; 0 marks a task whose response is above D or that has none
 unfoldable pub response : Tasks → (ℕ → Bool) → ℕ → ℕ
-response s on i = leastSolution (demand s on i) (s .D i)
+response s on i = upTo (s .D i) (worstResponse s on i)
 
 -- some task of the set has response 0
 abbrev pub lateTest : Tasks → (ℕ → Bool) → Bool

@@ -1,10 +1,14 @@
-// The response of a task, and whether a set of tasks is late. The tasks are lent as five rows of numbers, a place for each task, and a set is a mask.
+// The response and the margin of a task, and whether a set of tasks is late. The tasks are lent as five rows of numbers, a place for each task, and a set is a mask.
 ghost use mathlib.Core.Path.{_≡_};
 ghost use Prim.Native.Nat.{_*_, _<_, _≤_};
+ghost use lib.IntN.{pos, _-ℤ_};
+ghost use lib.ListN.{getD};
+ghost use lib.Signed.{mag};
 ghost use Rattle.mask.specs.Mask.{has};
 ghost use Rattle.schedule.specs.Periodic.{LateSet};
-ghost use Rattle.schedule.specs.Response.{ceil, demand, response};
-ghost use Rattle.schedule.specs.Arrays.{tasksOf, sharesOf, SmallShares, InLimits, Says};
+ghost use Rattle.schedule.specs.Response.{ceil, demand, leastSolution, worstResponse, upTo, response};
+ghost use Rattle.schedule.specs.Arrays.{tasksOf, sharesOf, SmallShares, InLimits, Says, workRow};
+ghost use Rattle.schedule.specs.Margin.{marginBy};
 use numbers::wide;
 
 // The rows: C, T, D, the priority, and the tasks of larger priority.
@@ -19,6 +23,12 @@ pub const DEADLINE: usize = 2;
 pub const PRIORITY: usize = 3;
 
 pub const HIGHER: usize = 4;
+
+// Deadline minus worst response, where that is at most the period; else it is beyond.
+pub enum Margin {
+    Known(i32),
+    Beyond,
+}
 
 // x / t, rounded up.
 fn rounded_up(x: u32, t: u32) -> u32
@@ -59,24 +69,66 @@ fn demand_at(timing: &Timing, n: usize, set: u32, i: usize, x: u32) -> u64
     wide(timing[WORK][i]) + interference(timing, set & timing[HIGHER][i], x)
 }
 
-// The response of task i in the set: 0 where it is above the deadline or there is none.
-pub fn response(timing: &Timing, n: usize, set: u32, i: usize) -> u32
-    requires { ⌜ InLimits n (now timing) set × (i < n) ⌝ }
-    ensures { λ r. ⌜ r ≡ response (tasksOf n (now (timing .entry))) (has set) i ⌝ }
+// The least solution of the response equation of task i in the set, where it is at most the limit; 0 where it is above that or there is none.
+fn least_solution(timing: &Timing, n: usize, set: u32, i: usize, limit: u32) -> u32
+    requires { ⌜ InLimits n (now timing) set × (i < n) × (getD (workRow (now timing)) i 0 ≤ limit) × (limit ≤ 1000000) ⌝ }
+    ensures { λ r. ⌜ r ≡ leastSolution (demand (tasksOf n (now (timing .entry))) (has set) i) limit ⌝ }
 {
-    let limit = wide(timing[DEADLINE][i]);
+    let most = wide(limit);
     let mut x = timing[WORK][i];
     let end = loop {
         let y = demand_at(timing, n, set, i, x);
         if y == wide(x) {
             break y;
         }
-        if limit < y {
+        if most < y {
             break y;
         }
         x = y as u32;
     };
-    if limit < end { 0 } else { end as u32 }
+    if most < end { 0 } else { end as u32 }
+}
+
+// The worst response of task i in the set, late or not: 0 where it is beyond the period or there is none.
+pub fn worst_response(timing: &Timing, n: usize, set: u32, i: usize) -> u32
+    requires { ⌜ InLimits n (now timing) set × (i < n) ⌝ }
+    ensures { λ r. ⌜ (r ≡ worstResponse (tasksOf n (now (timing .entry))) (has set) i) × (r ≤ 1000000) ⌝ }
+{
+    least_solution(timing, n, set, i, timing[PERIOD][i])
+}
+
+// The response by the deadline and the worst response: 0 where that is above the deadline.
+pub fn response_by(deadline: u32, worst: u32) -> u32
+    ensures { λ r. ⌜ r ≡ upTo deadline worst ⌝ }
+{
+    if deadline < worst { 0 } else { worst }
+}
+
+// x - y, below zero where y is larger.
+fn difference(x: u32, y: u32) -> i32
+    requires { ⌜ (x ≤ 1000000) × (y ≤ 1000000) ⌝ }
+    ensures { λ r. ⌜ (r ≡ pos x -ℤ pos y) × (mag r < 2147483648) ⌝ }
+{
+    x as i32 - y as i32
+}
+
+// The margin by the deadline and the worst response.
+pub fn margin_by(deadline: u32, worst: u32) -> Margin
+    requires { ⌜ (deadline ≤ 1000000) × (worst ≤ 1000000) ⌝ }
+    ensures { λ r. ⌜ r ≡ marginBy deadline worst ⌝ }
+{
+    if worst == 0 {
+        return Margin::Beyond;
+    }
+    Margin::Known(difference(deadline, worst))
+}
+
+// The response of task i in the set. The calculation ends at the deadline: nothing beyond it is asked for here.
+fn response(timing: &Timing, n: usize, set: u32, i: usize) -> u32
+    requires { ⌜ InLimits n (now timing) set × (i < n) ⌝ }
+    ensures { λ r. ⌜ r ≡ response (tasksOf n (now (timing .entry))) (has set) i ⌝ }
+{
+    least_solution(timing, n, set, i, timing[DEADLINE][i])
 }
 
 // Whether the set has a late job in the tick run.

@@ -2,22 +2,21 @@
 use mathlib.Core.Path.{_≡_, refl, _∙_}
 use mathlib.Core.Bool.{Bool, true, false, _&&_, _||_, cond}
 use mathlib.Core.List.{List}
-use Prim.Native.Nat.{ℕ, suc, _+_, _*_, _/_, _≤_, _<_}
+use Prim.Native.Nat.{ℕ, suc, _+_, _*_, _≤_, _<_}
 use native.Mathlib.Omega.{arith}
 use native.Mathlib.Nat.{mul-le-mul}
 use native.Mathlib.Numerals.{add-one}
 use borrow.Author.Tests.{lt-ltb, ne-eqb}
 use lib.Bits.{bitAnd}
-use lib.Dec.{T, eqb, ltb, ltb→lt}
+use lib.Dec.{T, ltb, ltb→lt}
 use lib.ListN.{getD, replicate}
 use Rattle.finite.specs.Finite.{only, sumTo, tabulate}
 use Rattle.finite.proofs.Only.{only-le, sum-bound}
 use Rattle.mask.specs.Mask.{has, below, maskOf}
 use Rattle.mask.proofs.Laws.{has-and, has-mask, has-below}
 use Rattle.mask.proofs.Tests.{and-left, and-right}
-use Rattle.finite.proofs.Tabulate.{getD-tabulate, tabulate-zero}
+use Rattle.finite.proofs.Tabulate.{getD-tabulate, tabulate-below, tabulate-same}
 use Rattle.subgradient.specs.Subgradient.{AtMost, countOf, countedOf, countsOf, directionFrom, directionOf, distance, normOf, totalOf, offScale, scaledOf, rescaledOf, stepOf, stepped, adaptOf}
-use Rattle.subgradient.proofs.Rows.{tabulate-below}
 
 -- ---- the tasks of any mask
 
@@ -59,15 +58,15 @@ square-small direction a k l = let h = distance-small (getD direction k 0) (a .e
 -- ---- rows whose numbers have a bound
 
 at-most : (limit : ℕ) (f : ℕ → ℕ) → ((k : ℕ) → k < 24 → f k ≤ limit) → AtMost limit (tabulate 24 f)
-at-most limit f h = record { each = λ k l. rw (getD-tabulate 24 f k l) (h k l) }
+at-most limit f h = record { each = λ k l. rw (getD-tabulate 24 f k 0 l) (h k l) }
 
 pub counts-start : (sets : List ℕ) → replicate 24 0 ≡ countsOf sets 0
 unfolding sumTo
-counts-start sets = tabulate-zero 24 (countOf sets 0) (λ k. refl)
+counts-start sets = tabulate-same 24 (countOf sets 0) 0 (λ k. refl)
 
 pub counts-next : (sets : List ℕ) (p : ℕ) → countedOf (countsOf sets p) (getD sets p 0) ≡ countsOf sets (p + 1)
 unfolding sumTo
-counts-next sets p = rw (add-one p) (tabulate-below 24 _ (countOf sets (suc p)) (λ k l. rw (getD-tabulate 24 (countOf sets p) k l) refl))
+counts-next sets p = rw (add-one p) (tabulate-below 24 _ (countOf sets (suc p)) (λ k l. rw (getD-tabulate 24 (countOf sets p) k 0 l) refl))
 
 pub counts-small : (sets : List ℕ) (m limit : ℕ) → m ≤ limit → AtMost limit (countsOf sets m)
 counts-small sets m limit h = at-most limit (countOf sets m) (λ k l. omega (arith, sum-bound m (λ p. only (has (getD sets p 0) k) 1) 1 (λ p q. only-le (has (getD sets p 0) k) 1 1 (λ u. omega arith))))

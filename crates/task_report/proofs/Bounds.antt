@@ -2,13 +2,14 @@
 use mathlib.Core.Path.{_≡_, refl}
 use mathlib.Core.Bool.{Bool, true, false, cond}
 use mathlib.Core.List.{List}
-use Prim.Native.Nat.{ℕ, _+_, _≤_, _<_}
+use Prim.Native.Nat.{ℕ, _+_, _*_, _≤_, _<_}
 use native.Mathlib.Omega.{arith}
 use native.Mathlib.Decide.{decLt}
-use lib.Dec.{ltb, eqb}
-use lib.ListN.{getD}
-use Rattle.finite.proofs.First.{First, first, found, missing}
+use lib.Dec.{leb, ltb, leb→le}
+use lib.ListN.{length, getD}
+use Rattle.finite.proofs.Only.{only-le}
 use Rattle.finite.proofs.Stored.{zeros}
+use Rattle.finite.proofs.Tabulate.{length-tabulate}
 use Rattle.wire.specs.Wire.{Bytes}
 use Rattle.layout.specs.Format.{longest}
 use Rattle.layout.proofs.Places.{longest-is}
@@ -24,7 +25,7 @@ use Rattle.table.proofs.Ended.{refused-place}
 use Rattle.table.proofs.Sound.{read-sound}
 use Rattle.table.proofs.Times.{deadline-most}
 use Rattle.schedule.specs.Periodic.{Tasks}
-use Rattle.schedule.specs.Response.{demand, leastSolution, response}
+use Rattle.schedule.specs.Response.{worstResponse, response}
 use Rattle.timing.specs.Timing.{tasksIn}
 use Rattle.rules.specs.declared.Rule.{Rule}
 use Rattle.rules.specs.declared.Rule.the-variants.{Residence, CoResidence, Exclusion, Memory, Utilisation, Network, Deadline}
@@ -36,7 +37,7 @@ use Rattle.rules.proofs.Order.{Finds, none, one, first-broken}
 use Rattle.judge.specs.declared.Judgement.{Judgement}
 use Rattle.judge.specs.declared.Judgement.the-variants as judgements
 use Rattle.judge.specs.declared.Judged.{Judged}
-use Rattle.judge.specs.Judge.{alongside, responseOf, responsesOf, judgementBy, concernedOf, judgedOn, judgedBy, judgeOf}
+use Rattle.judge.specs.Judge.{alongside, responseOf, responsesOf, marginAt, marginsOf, judgementBy, concernedOf, judgedOn, judgedBy, judgeOf}
 use Rattle.judge.proofs.Meaning.{Judging, judging, of-length, of-byte, of-rules}
 use Rattle.task_report.specs.declared.Answer.the-variants.{Refused, Written}
 use Rattle.task_report.specs.Report.{reportBy, reportAnswer}
@@ -45,12 +46,8 @@ use Rattle.task_report.specs.Small.{Small}
 -- ---- the numbers of a judgement
 
 response-most : (s : Tasks) (on : ℕ → Bool) (i : ℕ) → response s on i ≤ s .D i
-unfolding response leastSolution
-response-most s on i = go (first (s .D i) (λ x. eqb (demand s on i x) x) 1)
-  where
-    go : {y : ℕ} → First (s .D i) (λ x. eqb (demand s on i x) x) 1 y → y ≤ s .D i
-    go (found a b t h) = omega arith
-    go (missing e h) = omega arith
+unfolding response
+response-most s on i = only-le (leb (worstResponse s on i) (s .D i)) (worstResponse s on i) (s .D i) (leb→le (worstResponse s on i) (s .D i))
 
 module _ {t : Table} (s : Sound t) where
   concerned-most : (r : Rule) → concerned t r ≤ 24
@@ -74,13 +71,17 @@ module _ {t : Table} (s : Sound t) where
       go (yes l) = omega (arith, column-in 24 (t .tasks .count) (responseOf (tasksIn t) q) k (s .tasks .most) l, response-most (tasksIn t) (alongside q k) k, deadline-most s k l)
       go (no l) = omega (arith, column-beyond 24 (t .tasks .count) (responseOf (tasksIn t) q) k (omega arith))
 
+  margins-long : (q : List ℕ) → length (marginsOf t q) ≡ 24
+  unfolding marginsOf
+  margins-long q = length-tabulate 24 (marginAt (t .tasks .count) (tasksIn t) q)
+
   pub judged-small : (q : List ℕ) → Small (judgedOn t q)
   judged-small q = go (judging t q)
     where
       go : {j : Judged} → Judging t q j → Small j
-      go (of-length d) = record { concerned = omega arith; responses = λ k. omega (arith, zeros 24 k) }
-      go (of-byte u) = record { concerned = omega (arith, u .inside, u .long, s .tasks .most, longest-is); responses = λ i. omega (arith, zeros 24 i) }
-      go (of-rules w) = record { concerned = check-most (first-broken t (placed q) (missed (responsesOf t q))); responses = responses-most q }
+      go (of-length d) = record { concerned = omega arith; responses = λ k. omega (arith, zeros 24 k); margins = refl }
+      go (of-byte u) = record { concerned = omega (arith, u .inside, u .long, s .tasks .most, longest-is); responses = λ i. omega (arith, zeros 24 i); margins = refl }
+      go (of-rules w) = record { concerned = check-most (first-broken t (placed q) (missed (responsesOf t q))); responses = responses-most q; margins = margins-long q }
 
 -- ---- the place of a refusal
 
@@ -91,14 +92,14 @@ answer-place file b q room cause place e = go (readOf file .outcome) refl e
     n : ℕ
     n = readOf file .table .tasks .count
 
-    by-room : (short : Bool) → cond short (Refused ShortAnswer 0) (Written (n + 2)) ≡ Refused cause place → place ≤ longest
+    by-room : (short : Bool) → cond short (Refused ShortAnswer 0) (Written (2 * n + 2)) ≡ Refused cause place → place ≤ longest
     by-room true h = let z : 0 ≡ place = cc in omega arith
     by-room false h = absurd (let z : _≡_ {A = ℕ} 0 1 = cc in omega arith)
 
     by : (j : Judgement) → concernedOf j ≤ longest → reportBy j n room ≡ Refused cause place → place ≤ longest
     by (judgements.Refused c p) l h = let z : p ≡ place = cc in omega arith
-    by judgements.Kept l h = by-room (ltb room (n + 2)) h
-    by (judgements.Broken r k) l h = by-room (ltb room (n + 2)) h
+    by judgements.Kept l h = by-room (ltb room (2 * n + 2)) h
+    by (judgements.Broken r k) l h = by-room (ltb room (2 * n + 2)) h
 
     go : (o : Outcome) → readOf file .outcome ≡ o → reportBy (judgedBy o (readOf file .table) q .judgement) n room ≡ Refused cause place → place ≤ longest
     go (outcomes.Refused c p) h a = by (judgements.Refused c p) (refused-place file c p h) a

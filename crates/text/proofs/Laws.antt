@@ -47,7 +47,7 @@ room-one most x l h = ap length (digits-one most x l h)
 pub room-more : (most x : ℕ) → 0 < most → 10 ≤ x → length (digits most x) ≡ length (digits (most - 1) (x / 10)) + 1
 room-more most x l h = ap length (digits-more most x l h) ∙ length-append (digits (most - 1) (x / 10)) ((48 + x % 10) ∷ [])
 
-digits-few : (most x : ℕ) → length (digits most x) ≤ most
+pub digits-few : (most x : ℕ) → length (digits most x) ≤ most
 unfolding digits
 digits-few zero x = omega arith
 digits-few (suc most) x = go (ltb x 10) (digits-few most (x / 10))

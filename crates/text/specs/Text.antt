@@ -6,6 +6,7 @@ use Prim.Native.Char.{code}
 use Prim.Native.String as string
 use Prim.Native.String.{String}
 use lib.Dec.{ltb}
+use lib.IntN.{ℤ, pos, negsuc}
 
 -- a text's characters in ASCII
 abbrev pub ascii : String → List ℕ
@@ -20,3 +21,8 @@ digits (suc most) x = cond (ltb x 10) ((48 + x) ∷ []) (digits most (x / 10) ++
 -- x in decimal: a number of 64 bits has at most 20 digits
 abbrev pub decimal : ℕ → List ℕ
 decimal x = digits 20 x
+
+-- the same with a sign where it is below zero
+abbrev pub signed : ℤ → List ℕ
+signed (pos x) = decimal x
+signed (negsuc x) = ascii "-" ++ decimal (suc x)

@@ -2,7 +2,9 @@
 ghost use Prim.Native.Nat.{_+_, _≤_, _<_};
 ghost use lib.ListN.{length};
 ghost use Rattle.wire.specs.Wire.{Put};
-ghost use Rattle.text.specs.Text.{digits, decimal};
+ghost use Rattle.text.specs.Text.{digits, decimal, signed};
+
+const MINUS: [u8; 1] = *b"-";
 
 // Puts a piece at a place, and returns where it ends.
 pub fn put(text: &mut [u8], at: usize, piece: &[u8]) -> usize
@@ -40,4 +42,16 @@ pub fn put_decimal(text: &mut [u8], at: usize, x: u64) -> usize
     ensures { λ r. ⌜ Put (now (text .entry)) at (decimal x) (now (text .exit)) r ⌝ }
 {
     put_digits(text, at, x, 20)
+}
+
+// Puts a number in decimal, with a sign where it is below zero.
+pub fn put_signed(text: &mut [u8], at: usize, x: i32) -> usize
+    requires { ⌜ at + 21 ≤ length (now text) ⌝ }
+    ensures { λ r. ⌜ Put (now (text .entry)) at (signed x) (now (text .exit)) r ⌝ }
+{
+    if x < 0 {
+        let end = put(text, at, &MINUS);
+        return put_decimal(text, end, (0 - x as i64) as u64);
+    }
+    put_decimal(text, at, x as u64)
 }

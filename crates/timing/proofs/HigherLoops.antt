@@ -13,7 +13,7 @@ use Rattle.mask.specs.Mask.{insertOf}
 use Rattle.mask.proofs.Laws.{mask-insert, mask-skip}
 use Rattle.schedule.specs.Arrays.{higherThan, higherOf}
 use Rattle.schedule.proofs.Only.{only-in, only-same}
-use Rattle.finite.proofs.Tabulate.{tabulate-set, tabulate-zero}
+use Rattle.finite.proofs.Tabulate.{tabulate-set, tabulate-same}
 
 -- one task's mask, with the tasks below j
 pub record Row (n : ℕ) (p : List ℕ) (i row j : ℕ) : Type 0 where
@@ -49,7 +49,7 @@ pub record Rows (n : ℕ) (p rows : List ℕ) (i : ℕ) : Type 0 where
 pub rows-start : {n : ℕ} {p : List ℕ} → Rows n p (replicate 24 0) 0
 rows-start {n} {p} = record {
   below = omega arith;
-  value = tabulate-zero 24 (λ k. only (ltb k 0) (higherThan n p k)) (λ k. rw (le-ltb k 0 (omega arith)) refl);
+  value = tabulate-same 24 (λ k. only (ltb k 0) (higherThan n p k)) 0 (λ k. rw (le-ltb k 0 (omega arith)) refl);
 }
 
 pub rows-next : {n : ℕ} {p rows : List ℕ} {i r : ℕ} → Rows n p rows i → n ≤ 24 → i < n → r ≡ higherThan n p i → Rows n p (set rows i r) (i + 1)

@@ -182,19 +182,20 @@ fn widest<const N: usize>(rows: &[[&str; N]], column: usize) -> usize {
 }
 
 /// Names stand at the left of columns as wide as the longest; no response or deadline is wider than the word
-/// above it.
+/// above it. A margin may be, if it is negative: then this word and `beyond` stand at the left.
 fn task_lines(names: &Names, paragraph: &str) -> Result<String, Wrong> {
-    let rows: Vec<[&str; 4]> = paragraph.split('\n').map(words).collect::<Result<_, _>>()?;
-    let (left, right) = (widest(&rows, 0), widest(&rows, 1));
-    let written = |[task, on, time, deadline]: &[&str; 4]| {
-        format!("{task:<left$}  {on:<right$}  {time:>8}  {deadline:>8}")
+    let rows: Vec<[&str; 5]> = paragraph.split('\n').map(words).collect::<Result<_, _>>()?;
+    let [left, right, last] = [0, 1, 4].map(|column| widest(&rows, column));
+    let written = |[task, on, time, deadline, margin]: &[&str; 5]| {
+        let width = if ["margin", "beyond"].contains(margin) { 0 } else { last };
+        format!("{task:<left$}  {on:<right$}  {time:>8}  {deadline:>8}  {margin:>width$}")
     };
     ensure(paragraph.split('\n').eq(rows.iter().map(written)), Wrong::Columns)?;
-    ensure(rows[0] == ["task", "processor", "response", "deadline"], Wrong::Columns)?;
-    let line = |(own, [task, on, response, deadline]): (usize, &[&str; 4])| {
+    ensure(rows[0] == ["task", "processor", "response", "deadline", "margin"], Wrong::Columns)?;
+    let line = |(own, [task, on, response, deadline, margin]): (usize, &[&str; 5])| {
         ensure(number(&names.tasks, task)? == own, Wrong::Name)?;
         let on = number(&names.processors, on)?;
-        Ok(format!("task {own} on {on} response {response} deadline {deadline}\n"))
+        Ok(format!("task {own} on {on} response {response} deadline {deadline} margin {margin}\n"))
     };
     rows[1..].iter().enumerate().map(line).collect()
 }

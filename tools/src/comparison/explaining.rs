@@ -101,6 +101,7 @@ mod tests {
     use crate::file::encode;
     use crate::generate::files::sorts;
     use crate::listing::{Found, Stand};
+    use crate::margin::Margin;
 
     /// For all sorts but the lamps, whose conflicts are too many for the independent search.
     fn compared(explain: Explain) -> Result<Tally, Box<Difference>> {
@@ -176,6 +177,10 @@ mod tests {
                 ("limit\n", "limit \n"),
                 ("limit\n", "limit  ||\n"),
                 ("response  deadline", "deadline  response"),
+                ("deadline  margin\n", "deadline\n"),
+                ("deadline  margin\n", "deadline  Margin\n"),
+                ("     0\n", "0     \n"),
+                ("     0\n", "0\n"),
                 ("  |", " |"),
             ],
         );
@@ -207,13 +212,23 @@ mod tests {
             found.iter_mut().flat_map(|found| found.tasks.last_mut()).for_each(change);
         };
         misread("another processor", &|found, _, _| last(found, &|stand| stand.processor ^= 1));
-        misread("a response one more", &|found, _, _| last(found, &|stand| stand.response += 1));
+        misread("a response one more", &|found, _, _| {
+            last(found, &|stand| {
+                stand.response += 1;
+                stand.margin = Margin::Known(stand.margin.number() - 1);
+            });
+        });
+        misread("a late task", &|found, _, _| {
+            last(found, &|stand| (stand.response, stand.margin) = (0, Margin::Beyond));
+        });
         misread("loads in reverse", &|found, _, _| found.iter_mut().for_each(|found| found.loads.reverse()));
         misread("no placement", &|found, _, _| *found = None);
         misread("the sets in reverse", &|_, sets, _| sets.reverse());
         misread("a set left out", &|_, sets, _| sets.truncate(sets.len().max(1) - 1));
         misread("a task left out", &|_, sets, _| sets.iter_mut().for_each(|set| *set &= *set - 1));
         misread("the other mark", &|_, _, complete| *complete = !*complete);
+        let margin = rewritten("a margin one more", &|text| text.replace("     0\n", "     1\n"));
+        assert!(matches!(margin, Wrong::Facts { .. }), "{margin:?}");
         let falling = rewritten("tasks of a set falling", &|text| text.replace("  t0, t1\n", "  t1, t0\n"));
         assert!(matches!(falling, Wrong::Facts { .. }), "{falling:?}");
     }

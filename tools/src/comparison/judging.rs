@@ -5,6 +5,7 @@ use crate::generate::around::{Case, breaking};
 use crate::generate::faulty::refused_file;
 use crate::generate::tables::{Shape, table};
 use crate::judge::{RULES, Rule, judge_number};
+use crate::model::{Table, Task};
 use crate::random::Random;
 use std::collections::BTreeMap;
 use std::fmt::Debug;
@@ -35,7 +36,7 @@ struct Comparison<'a, A> {
     tally: Tally,
 }
 
-/// Compares some 1,200 inputs in a round.
+/// Compares some 1,300 inputs in a round.
 pub fn compare<A: PartialEq + Debug>(
     seed: u64,
     rounds: usize,
@@ -74,11 +75,16 @@ impl<A: PartialEq + Debug> Comparison<'_, A> {
         Ok(())
     }
 
-    /// The placement of the case, with some tasks moved, and in ways that are refused.
+    /// The placement of the case, the same with the priorities the other way, with some tasks moved, and in
+    /// ways that are refused. Priorities break no placement rule, but tasks that are in time with them often
+    /// are far from it the other way.
     fn variations(&mut self, case: Case) -> Result<(), Difference<A>> {
         let file = encode(&case.table);
         let placement = case.placement;
         self.check(&file, &placement)?;
+        let other_way = |task: &Task| Task { priority: !task.priority, ..*task };
+        let tasks = case.table.tasks.iter().map(other_way).collect();
+        self.check(&encode(&Table { tasks, ..case.table.clone() }), &placement)?;
         let mut moved = placement.clone();
         for _ in 0..4 {
             let task = self.random.below(moved.len());
@@ -122,13 +128,12 @@ impl<A: PartialEq + Debug> Comparison<'_, A> {
 mod tests {
     use super::*;
     use crate::comparison::misreading::MISREADINGS;
-    use crate::judge::{Judgement, judge};
-    use crate::model::{CAUSES_OF_A_FILE, Cause, Refusal, Table};
+    use crate::judge::{Judged, Judgement, judge};
+    use crate::margin::Margin;
+    use crate::model::{CAUSES_OF_A_FILE, Cause, Refusal};
     use crate::reader::read;
 
-    type Answer = Result<Judgement, Refusal>;
-
-    fn detected(what: &str, wrong: Judge<Answer>) {
+    fn detected(what: &str, wrong: Judge<Judged>) {
         assert!(compare(9, 2, &judge, wrong).is_err(), "not detected: {what}");
     }
 
@@ -178,6 +183,11 @@ mod tests {
             if judgement.broken.is_some() {
                 judgement.responses = [0; 24];
             }
+        });
+        detected_judgement("margins beyond the tasks", &|judgement| judgement.margins[23] = Margin::Beyond);
+        detected_judgement("late margins of 0", &|judgement| {
+            let late = judgement.margins.iter_mut().filter(|margin| margin.number() < 0);
+            late.for_each(|margin| *margin = Margin::Known(0));
         });
         detected_judgement("the first task alone", &|judgement| {
             judgement.broken =

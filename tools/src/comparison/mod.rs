@@ -7,6 +7,7 @@ pub mod explaining;
 pub mod judging;
 pub mod lateness;
 pub mod listings;
+pub mod margins;
 #[cfg(test)]
 mod misreading;
 pub mod printing;

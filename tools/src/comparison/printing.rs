@@ -27,7 +27,7 @@ pub enum Wrong {
     Form,
     /// The placement, the conflicts or the mark.
     Answer(Fault),
-    /// Responses, deadlines or loads; what is right.
+    /// Responses, deadlines, margins or loads; what is right.
     Facts { right: String },
     /// In pieces something else is printed than at once.
     Pieces { lengths: Vec<usize>, in_pieces: Ran },
@@ -169,6 +169,7 @@ mod tests {
     use crate::generate::files::sorts;
     use crate::generate::lamps::lamps;
     use crate::listing::{Found, Stand, listing};
+    use crate::margin::Margin;
     use crate::search::places;
 
     /// A change by its name.
@@ -233,13 +234,16 @@ mod tests {
 
     #[test]
     fn another_form_is_detected() {
-        let forms: [Rewriting; 9] = [
+        let forms: [Rewriting; 12] = [
             ("two bytes at a line's end", &|text| text.replace('\n', "\r\n")),
             ("no end of the last line", &|text| text.trim_end().to_string()),
             ("an empty line behind", &|text| format!("{text}\n")),
             ("another word", &|text| text.replace("found", "Found")),
             ("two blanks", &|text| text.replace("refused ", "refused  ")),
             ("a sign more", &|text| text.replace("response ", "response 0")),
+            ("no word before the margin", &|text| text.replace(" margin", "")),
+            ("a margin with a plus", &|text| text.replace("margin ", "margin +")),
+            ("a margin of -0", &|text| text.replace("margin 0\n", "margin -0\n")),
             ("loads without their processors", &|text| text.replace("load 0 ", "load ")),
             ("the listing twice", &|text| text.repeat(2)),
             ("nothing", &|_| String::new()),
@@ -291,10 +295,14 @@ mod tests {
         let last = |found: &mut Found, change: &dyn Fn(&mut Stand)| {
             found.tasks.last_mut().into_iter().for_each(change);
         };
-        let wrong: [Change<Found>; 5] = [
+        let wrong: [Change<Found>; 9] = [
             ("a response one more", &|found| last(found, &|stand| stand.response += 1)),
             ("a response of 0", &|found| last(found, &|stand| stand.response = 0)),
             ("a deadline one less", &|found| last(found, &|stand| stand.deadline -= 1)),
+            ("a margin one more", &|found| change_margin(found, |margin| margin + 1)),
+            ("a margin below zero", &|found| change_margin(found, |margin| -1 - margin)),
+            ("the sign of a margin turned round", &|found| change_margin(found, |margin| -margin)),
+            ("a margin beyond", &|found| last(found, &|stand| stand.margin = Margin::Beyond)),
             ("a load one more", &|found| found.loads.iter_mut().for_each(|load| *load += 1)),
             ("the loads in reverse", &|found| found.loads.reverse()),
         ];
@@ -311,6 +319,10 @@ mod tests {
             printed(listing.to_string())
         });
         assert!(matches!(rounded, Wrong::Facts { .. }), "{rounded:?}");
+    }
+
+    fn change_margin(found: &mut Found, change: fn(i32) -> i32) {
+        found.tasks.iter_mut().for_each(|stand| stand.margin = Margin::Known(change(stand.margin.number())));
     }
 
     fn round_up(table: &Table, found: &mut Found) {

@@ -2,7 +2,7 @@
 //! comes back, and every place of buffers that are too short, just long enough and longer.
 
 use super::judging::{self, Difference};
-use crate::judge::judge_tasks;
+use crate::judge::{judge, write};
 use crate::reader::read;
 use std::cell::RefCell;
 use std::collections::BTreeMap;
@@ -17,24 +17,50 @@ pub struct Answer {
     pub buffer: Vec<i32>,
 }
 
-/// Of the answers with one number: how many there were, in how many the place or the number concerned was not 0,
-/// and beside how many a task was late, or had a response.
+/// Of the answers with one number: how many there were, in how many the place or the number concerned was not
+/// 0, beside how many a task was late, or had a response, and beside how many there was a margin of each sort.
 #[derive(Debug, Default)]
 pub struct Seen {
     pub answers: u64,
     pub not_at_0: u64,
     pub with_late: u64,
     pub with_response: u64,
+    pub with_margin: Margins,
+}
+
+/// How often a margin of each sort was met.
+#[derive(Clone, Debug, Default, PartialEq, Eq)]
+pub struct Margins {
+    pub below: u64,
+    pub zero: u64,
+    pub above: u64,
+    pub beyond: u64,
+}
+
+impl Margins {
+    /// Notes one of these margins for each sort that is among them.
+    pub fn note(&mut self, margins: &[i32]) {
+        let any = |is_so: &dyn Fn(i32) -> bool| u64::from(margins.iter().any(|&margin| is_so(margin)));
+        self.below += any(&|margin| margin < 0 && margin != i32::MIN);
+        self.zero += any(&|margin| margin == 0);
+        self.above += any(&|margin| margin > 0);
+        self.beyond += any(&|margin| margin == i32::MIN);
+    }
+
+    pub fn least(&self) -> u64 {
+        self.below.min(self.zero).min(self.above).min(self.beyond)
+    }
 }
 
 /// By the number: a refusal's, 0 or a rule's.
 pub type Tally = BTreeMap<u64, Seen>;
 
-/// Compares some 1,200 placements in a round, each with buffers of every length that matters.
+/// Compares some 1,300 placements in a round, each with buffers of every length that matters.
 pub fn compare(seed: u64, rounds: usize, candidate: JudgeTasks) -> Result<Tally, Difference<Vec<Answer>>> {
     let tally = RefCell::new(Tally::new());
     let expected = |file: &[u8], placement: &[u8]| {
-        let answers = answers(&judge_tasks, file, placement);
+        let judged = judge(file, placement);
+        let answers = answers(&|_, placement, out| write(&judged, placement.len(), out), file, placement);
         answers.iter().for_each(|answer| note(&mut tally.borrow_mut(), answer));
         answers
     };
@@ -42,22 +68,24 @@ pub fn compare(seed: u64, rounds: usize, candidate: JudgeTasks) -> Result<Tally,
     Ok(tally.into_inner())
 }
 
-/// Buffers without a place, with one, and with one too few, as many as are needed, one more, and many more.
+/// Buffers without a place, with one, with as many as without margins, and with one too few, as many as are
+/// needed, one more, and many more.
 pub fn answers(judge: JudgeTasks, file: &[u8], placement: &[u8]) -> Vec<Answer> {
     let tasks = read(file).map_or(placement.len(), |table| table.tasks.len());
-    let lengths = [0, 1, tasks + 1, tasks + 2, tasks + 3, tasks + 40];
+    let needed = 2 * tasks + 2;
+    let lengths = [0, 1, tasks + 2, needed - 1, needed, needed + 1, needed + 40];
     lengths.map(|length| answer(judge, file, placement, length)).to_vec()
 }
 
-fn answer(judge: JudgeTasks, file: &[u8], placement: &[u8], length: usize) -> Answer {
+pub(super) fn answer(judge: JudgeTasks, file: &[u8], placement: &[u8], length: usize) -> Answer {
     let mut buffer = untouched(length);
     let code = judge(file, placement, &mut buffer);
     Answer { code, buffer }
 }
 
-/// A buffer that no call has written into: no number of a judgement is negative.
+/// A buffer that no call has written into: no number of a judgement is as large.
 pub fn untouched(length: usize) -> Vec<i32> {
-    (0..length).map(|place| -1 - place as i32).collect()
+    (0..length).map(|place| 2_000_000_000 + place as i32).collect()
 }
 
 fn note(tally: &mut Tally, answer: &Answer) {
@@ -67,19 +95,28 @@ fn note(tally: &mut Tally, answer: &Answer) {
         [number, concerned, ..] => (*number as u64, *concerned as u32),
         _ => (refusal, place),
     };
-    let responses = || written.iter().skip(2);
+    let (responses, margins) = parts(written);
     let seen = tally.entry(number).or_default();
     seen.answers += 1;
     seen.not_at_0 += u64::from(concerned != 0);
-    seen.with_late += u64::from(responses().any(|&response| response == 0));
-    seen.with_response += u64::from(responses().any(|&response| response != 0));
+    seen.with_late += u64::from(responses.contains(&0));
+    seen.with_response += u64::from(responses.iter().any(|&response| response != 0));
+    seen.with_margin.note(margins);
+}
+
+/// The responses and the margins of what is written; none of nothing.
+fn parts(written: &[i32]) -> (&[i32], &[i32]) {
+    let tasks = written.get(2..).unwrap_or_default();
+    tasks.split_at(tasks.len() / 2)
 }
 
 #[cfg(test)]
 mod tests {
     use super::*;
     use crate::comparison::judging::NUMBERS;
+    use crate::comparison::misreading::{WRONG_MARGINS, misjudged};
     use crate::examples;
+    use crate::judge::judge_tasks;
     use crate::model::{Cause, Refusal};
 
     const TOO_SHORT: u64 = 12 << 32;
@@ -103,10 +140,10 @@ mod tests {
     fn the_judge_agrees_with_every_example() {
         for example in examples::judging::all() {
             let (code, written) = example.written();
-            let found = answer(&judge_tasks, &example.file(), &example.placement, 40);
+            let found = answer(&judge_tasks, &example.file(), &example.placement, 60);
             assert_eq!(found.code, code, "{}", example.what);
             assert_eq!(found.buffer[..written.len()], written, "{}", example.what);
-            assert_eq!(found.buffer[written.len()..], untouched(40)[written.len()..], "{}", example.what);
+            assert_eq!(found.buffer[written.len()..], untouched(60)[written.len()..], "{}", example.what);
         }
     }
 
@@ -119,6 +156,11 @@ mod tests {
                 "{number} in {tally:?}"
             );
         }
+        for number in 101..=107 {
+            assert!(tally[&number].with_margin.least() >= 10, "{number} in {tally:?}");
+        }
+        let Margins { below, zero, above, beyond } = tally[&0].with_margin;
+        assert!(below == 0 && beyond == 0 && zero >= 10 && above >= 10, "{tally:?}");
     }
 
     #[test]
@@ -127,28 +169,50 @@ mod tests {
         detected_change("the number concerned first", &|out, _| out.swap(0, 1));
         detected_change("no responses beside a broken rule", &|out, end| {
             if out[0] != 0 {
-                out[2..end].fill(0);
+                out[2..margins_at(end)].fill(0);
             }
         });
         detected_change("responses beside a broken placement rule", &|out, end| {
             if (101..107).contains(&out[0]) {
-                out[2..end].iter_mut().for_each(|response| *response = (*response).max(1));
+                out[2..margins_at(end)].iter_mut().for_each(|response| *response = (*response).max(1));
             }
         });
         detected_change("late tasks marked by -1", &|out, end| {
-            out[2..end].iter_mut().filter(|response| **response == 0).for_each(|response| *response = -1);
+            let late = out[2..margins_at(end)].iter_mut().filter(|response| **response == 0);
+            late.for_each(|response| *response = -1);
         });
-        detected_change("the last response not written", &|out, end| out[end - 1] = untouched(end)[end - 1]);
+        detected_change("the last margin not written", &|out, end| out[end - 1] = untouched(end)[end - 1]);
+        detected_change("no margins written", &|out, end| {
+            let at = margins_at(end);
+            out[at..end].copy_from_slice(&untouched(end)[at..]);
+        });
         detected_change("places behind cleared", &|out, end| out[end..].fill(0));
-        detected("the count of tasks", &|file, placement, out| {
-            let code = judge_tasks(file, placement, out);
-            if code >> 32 == 0 { code - 2 } else { code }
-        });
+        for (what, count) in [
+            ("the count of tasks", (|code| code / 2 - 1) as fn(u64) -> u64),
+            ("the count without margins", |code| code / 2 + 1),
+        ] {
+            detected(what, &|file, placement, out| {
+                let code = judge_tasks(file, placement, out);
+                if code >> 32 == 0 { count(code) } else { code }
+            });
+        }
+    }
+
+    #[test]
+    fn wrong_margins_are_detected() {
+        for (what, change) in WRONG_MARGINS {
+            detected(what, &|file, placement, out| misjudged(change, file, placement, out));
+        }
+    }
+
+    /// Where the margins begin if so many places are written.
+    fn margins_at(end: usize) -> usize {
+        end / 2 + 1
     }
 
     /// Whether a placement of this file asks for more places than these.
     fn too_short(file: &[u8], out: &[i32]) -> bool {
-        read(file).is_ok_and(|table| out.len() < table.tasks.len() + 2)
+        read(file).is_ok_and(|table| out.len() < 2 * table.tasks.len() + 2)
     }
 
     #[test]
@@ -179,6 +243,17 @@ mod tests {
                 code if code >> 32 == 0 && is_short => {
                     out.copy_from_slice(&before);
                     TOO_SHORT
+                }
+                code => code,
+            }
+        });
+        detected("as many places as without margins asked for", &|file, placement, out| {
+            let mut longer = [&out[..], &[0; 24]].concat();
+            match judge_tasks(file, placement, out) {
+                TOO_SHORT if out.len() >= placement.len() + 2 => {
+                    let code = judge_tasks(file, placement, &mut longer);
+                    out.copy_from_slice(&longer[..out.len()]);
+                    code
                 }
                 code => code,
             }

@@ -45,12 +45,12 @@ pub fn three() -> Table {
     Table { capacity: 5, processors: vec![processor(100, 1000); 2], ..free_table(tasks, 2) }
 }
 
-/// What the program prints for it, whole (01 "The program").
+/// What the program prints for it, whole (01 "The program", with the margins: 4 - 1, 6 - 3, 9 - 3).
 pub const LISTING: &str = "\
 found
-task 0 on 0 response 1 deadline 4
-task 1 on 0 response 3 deadline 6
-task 2 on 1 response 3 deadline 9
+task 0 on 0 response 1 deadline 4 margin 3
+task 1 on 0 response 3 deadline 6 margin 3
+task 2 on 1 response 3 deadline 9 margin 6
 load 0 583
 load 1 250
 conflict 0 1 2

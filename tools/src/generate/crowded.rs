@@ -1,6 +1,6 @@
 //! Tables near to what their processors can take, in which every rule is sometimes broken.
 
-use super::sets::{crowded_set, free_table, load};
+use super::sets::{crowded_set, free_table, load, random_set};
 use super::tables::groups;
 use crate::model::{Message, Processor, Table};
 use crate::random::Random;
@@ -12,12 +12,28 @@ pub fn small_table(random: &mut Random) -> Table {
     let spare = 1 + random.below(2);
     let mut table = crowded_table(random, processors, count, spare);
     if random.once_in(3) {
-        let (together, apart) = (random.below(2), random.below(3));
-        table.co_resident = groups(random, together, count);
-        table.exclusive = groups(random, apart, count);
-        add_messages(random, &mut table);
+        relate_tasks(random, &mut table);
     }
     table
+}
+
+/// One to six tasks on one to three processors, of which one could often just take them all, or just not.
+pub fn tiny_table(random: &mut Random) -> Table {
+    let mut tasks = random_set(random);
+    tasks.truncate(6);
+    let mut table = free_table(tasks, 1 + random.below(3));
+    restrict(random, &mut table);
+    if random.once_in(6) {
+        relate_tasks(random, &mut table);
+    }
+    table
+}
+
+fn relate_tasks(random: &mut Random, table: &mut Table) {
+    let (together, apart) = (random.below(2), random.below(3));
+    table.co_resident = groups(random, together, table.tasks.len());
+    table.exclusive = groups(random, apart, table.tasks.len());
+    add_messages(random, table);
 }
 
 /// 8 to 16 tasks on 2 to 8 processors that have room for them, with at most 2^28 placements.
@@ -62,11 +78,15 @@ fn few_tasks(random: &mut Random, count: usize) -> u32 {
 fn crowded_table(random: &mut Random, processors: usize, count: usize, spare: usize) -> Table {
     let crowd = (count.div_ceil(processors) + spare) as u32;
     let mut table = free_table(crowded_set(random, count, crowd), processors);
-    restrict_tasks(random, &mut table);
-    if random.once_in(4) {
-        restrict_processors(random, &mut table);
-    }
+    restrict(random, &mut table);
     table
+}
+
+fn restrict(random: &mut Random, table: &mut Table) {
+    restrict_tasks(random, table);
+    if random.once_in(4) {
+        restrict_processors(random, table);
+    }
 }
 
 fn restrict_tasks(random: &mut Random, table: &mut Table) {

@@ -2,7 +2,7 @@
 
 use crate::model::{Processor, Table, Task, hyperperiod};
 use crate::random::Random;
-use crate::schedule::response;
+use crate::schedule::{all, response};
 
 /// In the last two most periods have no common divisor.
 const FAMILIES: [&[u32]; 6] = [
@@ -89,7 +89,7 @@ fn fill(random: &mut Random, tasks: &mut Vec<Task>, excess: u32) {
 fn meet_deadline(random: &mut Random, tasks: &mut [Task], short: u32) {
     let task = random.below(tasks.len());
     tasks[task].deadline = tasks[task].period;
-    let response = response(tasks, (1 << tasks.len()) - 1, task);
+    let response = response(tasks, all(tasks), task);
     tasks[task].deadline = response.saturating_sub(short).max(tasks[task].execution);
 }
 

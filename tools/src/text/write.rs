@@ -21,7 +21,8 @@ fn row(kind: Kind, words: impl IntoIterator<Item = String>) -> Vec<String> {
     [keyword(kind).to_string()].into_iter().chain(words).collect()
 }
 
-fn words<const N: usize>(words: [&dyn ToString; N]) -> [String; N] {
+/// As they are written.
+pub fn words<const N: usize>(words: [&dyn ToString; N]) -> [String; N] {
     words.map(|word| word.to_string())
 }
 

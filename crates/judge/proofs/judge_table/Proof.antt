@@ -26,18 +26,19 @@ judge-table-spec =
     (λ c κs. search needs)  -- refused-requires-2
     (λ c. let e = c .before .before in rw (eq-eqb _ _ (e .if1 .left), ← (e .before .first-unknown .ensures), lt-ltb _ _ (c .before .if2 .taken)) (c .refused2 .ensures))  -- returns-2
     (λ c κs. placeable-of (start c .pre) (whole c))  -- sets-of-requires
-    (λ c κs. (start (c .before) .pre, whole (c .before), c .sets-of .ensures))  -- responses-of-requires
+    (λ c κs. (start (c .before) .pre, whole (c .before), c .sets-of .ensures))  -- times-of-requires
     (λ c κs. search needs)  -- first-broken-requires
     (λ c κs. search needs)  -- judgement-by-requires
     (λ c.
-    let e = c .before .before .before .before in
+    let times = c .before .before .before .before in
+    let e = times .before .before in
     rw (
       eq-eqb _ _ (e .before .if1 .left),
       ← (e .before .before .first-unknown .ensures),
       le-ltb _ _ (e .if2 .left),
       c .judgement-by .ensures,
       c .before .first-broken .ensures,
-      c .before .before .responses-of .ensures,
-      c .before .before .before .sets-of .ensures,
+      times .times-of .ensures,
+      times .before .sets-of .ensures,
       sets-placed _ (placeable-of (start e .pre) (whole e)),
     )))  -- returns-3

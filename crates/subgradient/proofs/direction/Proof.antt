@@ -6,7 +6,7 @@ use mathlib.Core.Bool.{Bool}
 use borrow.Author.Needs.{needs}
 use lib.ListN.{getD}
 use Rattle.subgradient.specs.Subgradient.{directionFrom}
-use Rattle.subgradient.proofs.Rows.{Filled, filled-start, filled-next, filled-end}
+use Rattle.finite.proofs.Filling.{Filled, filled-start, filled-next, filled-end}
 use Rattle.subgradient.proofs.direction.Statement.{statement}
 use Rattle.subgradient.proofs.direction.Tie as tie
 
@@ -14,7 +14,7 @@ abbrev new : Bool → List ℕ → List ℕ → ℕ → ℕ
 new first before counts k = directionFrom first (getD before k 0) (getD counts k 0)
 
 abbrev Inv-loop : tie.InvT-loop
-Inv-loop first before counts next₀ k₀ next k = (k ≤ 24) × Filled (new first before counts) k next
+Inv-loop first before counts next₀ k₀ next k = (k ≤ 24) × Filled 24 (new first before counts) 0 k next
 
 abbrev μ-loop : tie.MeasureT-loop
 μ-loop first before counts next₀ k₀ next k = 24 - k

@@ -6,7 +6,7 @@ use native.Mathlib.Omega.{arith}
 use borrow.Author.Needs.{needs}
 use lib.ListN.{getD}
 use Rattle.subgradient.specs.Subgradient.{limited}
-use Rattle.subgradient.proofs.Rows.{Filled, filled-start, filled-next, filled-end}
+use Rattle.finite.proofs.Filling.{Filled, filled-start, filled-next, filled-end}
 use Rattle.subgradient.proofs.scaled.Statement.{statement}
 use Rattle.subgradient.proofs.scaled.Tie as tie
 
@@ -14,7 +14,7 @@ abbrev new : List ℕ → ℕ → ℕ → ℕ
 new weights total k = limited (getD weights k 0 * 4194304 / total)
 
 abbrev Inv-loop : tie.InvT-loop
-Inv-loop total weights next₀ k₀ next k = (k ≤ 24) × Filled (new weights total) k next
+Inv-loop total weights next₀ k₀ next k = (k ≤ 24) × Filled 24 (new weights total) 0 k next
 
 abbrev μ-loop : tie.MeasureT-loop
 μ-loop total weights next₀ k₀ next k = 24 - k

@@ -29,10 +29,10 @@ judge-tasks-of-spec =
     (λ c κs. search needs)  -- judge-table-requires
     (λ c. search needs)  -- enum-known-judgement
     (λ c. let j = c .before .before .before .judge-table in rw (← (j .ensures), c .before .judgement .given .1) (refl, refl))  -- returns
-    (λ c. search needs)  -- add-if1
+    (λ c. record { fits = omega (arith, c .before .before .before .before .pre .tasks .most) })  -- mul-count
+    (λ c. record { fits = omega (arith, c .before .before .before .before .pre .tasks .most) })  -- add-count
     (λ c. let j = c .before .before .judge-table in rw (← (j .ensures), answered _ (c .before .match .keys2), lt-ltb _ _ (c .if1 .taken)) (refl, refl))  -- returns-2
     (λ c κs. let j = c .before .before .before in let z = j .before .before .before in (rw (j .judge-table .ensures) (judged-small (z .pre) (z .args .placement .now)), z .pre .tasks .most, c .before .if1 .left))  -- put-numbers-requires
-    (λ c. search needs)  -- add-t10
     (λ c. search needs)  -- same-length
     (λ c.
     let w = c .before in
