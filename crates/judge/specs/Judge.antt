@@ -6,7 +6,7 @@ use Prim.Native.Nat.{ℕ, _<_}
 use lib.Dec.{leb, ltb, eqb}
 use lib.IntN.{pos}
 use lib.ListN.{length, getD, replicate}
-use Rattle.finite.specs.Finite.{only, firstBelow, tabulate}
+use Rattle.finite.specs.Finite.{firstBelow, tabulate}
 use Rattle.verdict.specs.declared.Cause.{Cause}
 use Rattle.verdict.specs.declared.Cause.the-variants.{PlacementLength, UnknownProcessor}
 use Rattle.table.specs.declared.Outcome.{Outcome}
@@ -28,8 +28,6 @@ use Rattle.judge.specs.declared.Judgement.{Judgement}
 use Rattle.judge.specs.declared.Judgement.the-variants.{Refused, Kept, Broken}
 use Rattle.judge.specs.declared.Judged.{Judged}
 use Rattle.judge.specs.declared.TaskMargin.{TaskMargin}
-use Rattle.judge.specs.declared.TaskTimes.{TaskTimes}
-use Rattle.judge.specs.declared.Times.{Times}
 
 -- 01: a placement is n bytes, byte k the processor of task k
 pub record PlacementOf (t : Table) (q : List ℕ) : Type 0 where
@@ -63,13 +61,6 @@ marginAt n s q k = cond (ltb k n) (record { margin = marginOf s (alongside q k) 
 -- 02: beside each response the margin, whatever is broken
 unfoldable pub marginsOf : Table → List ℕ → List TaskMargin
 marginsOf t q = tabulate 24 (marginAt (t .tasks .count) (tasksIn t) q)
-
--- both of one task, and of all
-abbrev pub timesAt : ℕ → Tasks → List ℕ → ℕ → TaskTimes
-timesAt n s q k = record { response = only (ltb k n) (responseOf s q k); margin = marginAt n s q k }
-
-abbrev pub timesOf : Table → List ℕ → Times
-timesOf t q = record { responses = responsesOf t q; margins = marginsOf t q }
 
 abbrev pub judgementBy : Check → Judgement
 judgementBy checks.Kept = Kept
