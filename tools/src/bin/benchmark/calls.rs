@@ -8,7 +8,7 @@ use tools::examples::task;
 use tools::file::encode;
 use tools::generate::sets::free_table;
 use tools::generate::tables::{Shape, table};
-use tools::judge::judge_number;
+use tools::judge::{Placed, RULES};
 use tools::model::Task;
 use tools::random::Random;
 use tools::schedule::late;
@@ -24,11 +24,21 @@ pub fn calls() {
     beside(&read, &|| tool::read(black_box(&file)), &|| reader::read_code(black_box(&file)));
     let placement: Vec<u8> = (0..24).map(|task| task % 8).collect();
     let tool = || u64::from(tool::judge(black_box(&file), black_box(&placement)));
-    let rust = || u64::from(judge_number(black_box(&file), black_box(&placement)));
+    let rust = || judge_with_responses(black_box(&file), black_box(&placement));
     beside("judge 24 tasks on 8 processors", &tool, &rust);
     for count in [2, 6, 12, 24] {
         lateness(count);
     }
+}
+
+/// The number of a placement that isn't refused, and each response, as the tool works them out too. The margins
+/// are left out: those of the independent implementation are simulated.
+fn judge_with_responses(file: &[u8], placement: &[u8]) -> u64 {
+    let table = reader::read(file).expect("a file that is read");
+    let placed = Placed { table: &table, placement };
+    (0..placement.len()).for_each(|task| _ = black_box(placed.response(task)));
+    let broken = RULES.into_iter().find(|&rule| !placed.keeps(rule));
+    broken.map_or(0, |rule| rule as u64)
 }
 
 /// One test for each of many equal sets; reading the file once is lost among them.
