@@ -3,7 +3,7 @@
 use crate::columns::aligned;
 use crate::listing::{Found, Listing, Stand};
 use crate::margin::Margin;
-use crate::model::{Cause, Kind, Refusal, Table, Task};
+use crate::model::{Cause, Kind, LARGEST_LIMIT, Refusal, Table, Task};
 use crate::reader::read;
 use crate::text::Names;
 use crate::text::line::keyword;
@@ -29,7 +29,8 @@ pub fn explain(file: &[u8], names: Option<Names>, listing: &Listing) -> Option<S
     }
 }
 
-/// Whether the listing has the tasks and processors of this table.
+/// Whether the listing has the tasks and processors of this table. No load of a placement is above 1000: it
+/// keeps its limit, which is a whole number of thousandths, so that rounding to the nearest does not pass it.
 fn fits(table: &Table, listing: &Listing) -> bool {
     let Listing::Searched { found, conflicts, .. } = listing else {
         return false;
@@ -40,6 +41,7 @@ fn fits(table: &Table, listing: &Listing) -> bool {
     let placed = |found: &Found| {
         found.tasks.len() == table.tasks.len()
             && found.loads.len() == table.processors.len()
+            && found.loads.iter().all(|&load| load <= LARGEST_LIMIT.into())
             && found.tasks.iter().zip(&table.tasks).all(stands)
     };
     found.as_ref().is_none_or(placed) && conflicts.iter().all(|conflict| conflict >> table.tasks.len() == 0)
@@ -103,7 +105,7 @@ fn placement(table: &Table, names: &Names, found: &Found) -> String {
     format!("\n{}\n{}", aligned(&tasks, GAP), aligned(&loads, GAP))
 }
 
-/// A load of a thousandth already shows.
+/// Rounded by itself, from the printed load: each sign stands for 25 thousandths, and a begun one shows.
 fn bar(load: u64) -> String {
     let filled = (load * BAR).div_ceil(1000);
     format!("|{}{}|", "#".repeat(filled as usize), " ".repeat((BAR - filled) as usize))

@@ -1,6 +1,7 @@
 //! Checks the placement tool against an independent implementation, written from the contract alone.
 //!
-//! - `reader`, `schedule`, `margin`, `conflict`, `judge`, `search`: the independent implementation;
+//! - `reader`, `schedule`, `margin`, `conflict`, `judge`, `search`, `rounding`: the independent
+//!   implementation;
 //! - `generate`: random inputs; `examples`: inputs with answers worked out by hand;
 //! - `comparison`: runs both on many inputs;
 //! - `tool`: the tool's C functions; `program`: the program, as a process;
@@ -26,6 +27,7 @@ pub mod program;
 pub mod question;
 pub mod random;
 pub mod reader;
+pub mod rounding;
 pub mod schedule;
 pub mod search;
 pub mod text;

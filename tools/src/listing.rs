@@ -5,6 +5,7 @@ use crate::judge::Placed;
 use crate::margin::Margin;
 use crate::model::{CAUSES, Refusal, Table};
 use crate::reader::read;
+use crate::rounding::nearest_thousandth;
 use crate::schedule::members;
 use crate::search::checker::parse_list;
 use crate::search::{head, with_list};
@@ -25,7 +26,7 @@ pub enum Listing {
 #[derive(Clone, Debug, PartialEq, Eq)]
 pub struct Found {
     pub tasks: Vec<Stand>,
-    /// For each processor, in thousandths of H.
+    /// For each processor, to the nearest thousandth of H.
     pub loads: Vec<u64>,
 }
 
@@ -54,13 +55,17 @@ impl Listing {
             return None;
         };
         let placement = match found {
-            Some(found) => {
-                let processors = found.tasks.iter().map(|stand| u8::try_from(stand.processor).ok());
-                Some(processors.collect::<Option<Vec<u8>>>()?)
-            }
+            Some(found) => Some(found.placement()?),
             None => None,
         };
         Some(with_list(head(table, placement.as_deref()), conflicts, *complete))
+    }
+}
+
+impl Found {
+    /// The processor of each task; None if one is no byte.
+    pub fn placement(&self) -> Option<Vec<u8>> {
+        self.tasks.iter().map(|stand| u8::try_from(stand.processor).ok()).collect()
     }
 }
 
@@ -80,7 +85,7 @@ fn found(placed: &Placed) -> Found {
         deadline: table.tasks[task].deadline,
         margin: margins[task],
     };
-    let thousandths = |processor| 1000 * placed.load(processor) / u64::from(table.hyperperiod);
+    let thousandths = |processor| nearest_thousandth(placed.load(processor), u64::from(table.hyperperiod));
     Found {
         tasks: placed.placement.iter().enumerate().map(stand).collect(),
         loads: (0..table.processors.len()).map(thousandths).collect(),

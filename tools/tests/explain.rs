@@ -199,6 +199,10 @@ fn listings_of_other_tables() {
     assert_eq!(of(&printed.replace("deadline 9 margin 6", "deadline 10 margin 7")), None);
     assert_eq!(of(&printed.replace("margin 6", "margin 7")), None);
     assert_eq!(of(&printed.replace("load 1 250\n", "")), None);
+    // No limit lets a load of more than 1000 through.
+    assert!(of(&printed.replace("load 1 250", "load 1 1000")).is_some());
+    assert_eq!(of(&printed.replace("load 1 250", "load 1 1001")), None);
+    assert_eq!(of(&printed.replace("load 1 250", "load 1 18446744073709551615")), None);
     assert_eq!(explain(&file[..20], None, &of_the_program(true, vec![7], true)), None);
 }
 

@@ -1,11 +1,12 @@
 //! The program: all that it prints, checked by the independent reader, search and judge.
 
-use tools::comparison::printing::{PROGRAMS_INPUT, check, compare};
-use tools::examples::reading;
+use tools::comparison::printing::{PROGRAMS_INPUT, Tally, check, compare};
 use tools::examples::searching::{self, LISTING, three};
+use tools::examples::{reading, rounding};
 use tools::file::encode;
-use tools::generate::files::sorts;
+use tools::generate::files::{Sort, sorts};
 use tools::program::{Ran, pieces, place};
+use tools::random::Random;
 
 fn prints(what: &str, input: &[&[u8]], expected: &str) {
     let Ran { status, printed, said } = place(input);
@@ -34,6 +35,13 @@ fn files_worked_by_hand() {
     }
 }
 
+#[test]
+fn loads_worked_by_hand() {
+    for example in rounding::all() {
+        prints(example.what, &[&encode(&example.table)], example.listing);
+    }
+}
+
 /// What stands beyond the bytes that the program reads changes nothing: here it would be another table.
 #[test]
 fn long_files() {
@@ -51,9 +59,24 @@ fn long_files() {
 #[test]
 fn generated_files() {
     let seed = 0x0070_6C61_6365;
-    let files = sorts().into_iter().cycle().take(3_300);
+    let files = sorts().into_iter().cycle().take(3_700);
     let tally = compare(seed, files, &place).unwrap_or_else(|difference| panic!("{difference:?}"));
     println!("seed {seed}: {} files, {tally:?}", tally.files());
     assert!(tally.files() >= 3_000 && tally.pieces >= 5 * tally.files(), "{tally:?}");
     assert!(tally.least() >= 50, "an outcome that hardly occurs: {tally:?}");
+}
+
+#[test]
+fn loads_between_two_thousandths() {
+    let seed = 0x6861_6C76_6573;
+    let mut random = Random::new(seed);
+    let mut tally = Tally::default();
+    for _ in 0..2_000 {
+        let file = Sort::Halves.file(&mut random);
+        let listing = check(&file, &place(&[&file])).unwrap_or_else(|wrong| panic!("{wrong:?}: {file:?}"));
+        tally.note(&file, &listing);
+    }
+    println!("seed {seed}: {} files, {:?}", tally.files(), tally.loads);
+    assert!(tally.found >= 1_500 && tally.none >= 150, "{tally:?}");
+    assert!(tally.loads.least() >= 500, "a place that hardly occurs: {:?}", tally.loads);
 }

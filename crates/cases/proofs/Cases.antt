@@ -1,4 +1,4 @@
--- 01's starred cases hold: one theorem, by computation from the bytes of the files. Assumes nothing.
+-- 01's starred cases and 02's examples hold: one theorem, by computation from the bytes of the files. Assumes nothing.
 use mathlib.Core.Path.{_≡_, refl, subst}
 use mathlib.Core.List.{List, [], _∷_}
 use Prim.Native.Nat.{ℕ}
@@ -18,6 +18,7 @@ use Rattle.table.specs.Encode.{encode, encodeRecord, fieldBytes}
 use Rattle.table.specs.Sound.{Sound}
 use Rattle.table.proofs.Sound.{read-sound}
 use Rattle.table.proofs.EncodedBytes.{encode-bytes}
+use Rattle.load.specs.Nearest.{nearest}
 use Rattle.schedule.specs.Run.{service, scheduled, pending, unfinished}
 use Rattle.schedule.specs.Response.{response, worstResponse, leastSolution, demand, ceil, lateTest}
 use Rattle.schedule.proofs.LateSets.{late-test}
@@ -29,7 +30,8 @@ use Rattle.conflict.specs.declared.Finding.the-variants.{MinimalConflict}
 use Rattle.conflict.specs.Conflict.{Right, findingOf}
 use Rattle.conflict.proofs.Findings.{finding-right}
 use Rattle.judge.specs.Judge.{judgeOf, judgedOn, firstUnknown, responsesOf, marginsOf}
-use Rattle.cases.specs.Cases.{Claim, judged, ends, late, minimal, load, Case, tableFor, fileOf, Claimed, EachHolds, AllHold, cases}
+use Rattle.text.specs.Text.{digits}
+use Rattle.cases.specs.Cases.{Claim, judged, ends, late, minimal, load, prints, Case, tableFor, fileOf, Claimed, EachHolds, AllHold, cases}
 
 -- what is computed for a claim: lateness goes by the responses, the rest is computed as it stands
 abbrev Computed : List ℕ → Table → List ℕ → Claim → Type 0
@@ -38,6 +40,7 @@ Computed file t q (ends k x) = Claimed file t q (ends k x)
 Computed file t q (late set) = T (lateTest (tasksIn t) (has set))
 Computed file t q (minimal set) = T (below (t .tasks .count) set) × (findingOf (tasksIn t) set ≡ MinimalConflict)
 Computed file t q (load p a b) = Claimed file t q (load p a b)
+Computed file t q (prints lines) = Claimed file t q (prints lines)
 
 abbrev EachComputed : List ℕ → Table → List ℕ → List Claim → Type 0
 EachComputed file t q [] = Unit {0}
@@ -54,6 +57,7 @@ module _ (file : List ℕ) {t : Table} (s : Sound t) (q : List ℕ) where
   claimed (late set) e = late-test (tasksIn t) (valid-tasks s) (has set) (constrained-tasks s) .0 e
   claimed (minimal set) e = subst (Right (tasksIn t) set) (e .1) (finding-right (tasksIn t) (valid-tasks s) (constrained-tasks s) set (e .0))
   claimed (load p a b) e = e
+  claimed (prints lines) e = e
 
   each : (xs : List Claim) → EachComputed file t q xs → EachHolds file t q xs
   each [] e = tt
@@ -71,7 +75,7 @@ computed : AllComputed cases
 unfolding judgeOf judgedOn firstUnknown responsesOf marginsOf firstBroken checkRule firstBelow someBelow sumTo firstFrom tabulate elsewhere apart together somePair residenceBroken coResidenceBroken exclusionBroken
     memoryBroken memoryOn utilisationBroken loadOn networkBroken traffic service scheduled pending unfinished response worstResponse leastSolution demand ceil readOf tableOf emptyTable column scanOf scanFrom atEnd
     missing encode pieces encodeRecord fieldBytes verdict recordVerdict contentVerdict hyperperiodTooLarge messageRepeated periodsDiffer priorityUsed notInFile badPair badGroup badResidence outOfRange
-    tooMany outOfOrder kindAt bytesOf placeIn recordCut markCut little number bytes markAt lcm lcmTo
+    tooMany outOfOrder kindAt bytesOf placeIn recordCut markCut little number bytes markAt lcm lcmTo nearest digits
 computed =
     row (refl, (refl, ((omega arith, refl), ((omega arith, refl), ((omega arith, refl), tt)))))
     (row (refl, (refl, ((tt, refl), ((omega arith, refl), tt))))
@@ -86,7 +90,10 @@ computed =
     (row (refl, (refl, (refl, tt)))
     (row (refl, (refl, tt))
     (row (refl, (refl, tt))
-    tt))))))))))))
+    (row (refl, (refl, (refl, (refl, (refl, (refl, (refl, tt)))))))
+    (row (refl, (refl, (refl, tt)))
+    (row (refl, (refl, (refl, tt)))
+    tt)))))))))))))))
 
 pub cases-hold : AllHold cases
 cases-hold = all-hold cases computed

@@ -1,7 +1,9 @@
--- The starred cases of 01, "Table of cases", with the margins of 02, 2026-01: a row is a table file, a placement of its tasks, and what is claimed of them.
+-- The starred cases of 01, "Table of cases", with the margins of 02, 2026-01, and the loads of 02, 2026-02, to the nearest thousandth.
+-- A row is a table file, a placement of its tasks, and what is claimed of them.
 use mathlib.Core.Path.{_≡_}
 use mathlib.Core.List.{List, [], _∷_, map}
 use Prim.Native.Nat.{ℕ, _-_, _*_, _^_, _<_}
+use Prim.Native.String.{String}
 use lib.IntN.{pos, _-ℤ_}
 use lib.ListN.{length, getD}
 use Rattle.finite.specs.Finite.{tabulate}
@@ -21,6 +23,8 @@ use Rattle.conflict.specs.Conflict.{Minimal}
 use Rattle.judge.specs.declared.Judgement.{Judgement}
 use Rattle.judge.specs.declared.Judgement.the-variants.{Kept, Broken}
 use Rattle.judge.specs.Judge.{alongside, judgeOf}
+use Rattle.text.specs.Text.{ascii}
+use Rattle.report.specs.Report.{loadLines}
 
 -- ---- a row
 
@@ -51,6 +55,8 @@ pub data Claim : Type 0 where
   minimal : (set : ℕ) → Claim
   -- the load of processor p is a / b of a full one
   load : (p a b : ℕ) → Claim
+  -- the load lines that the program prints for the placement
+  prints : String → Claim
 
 pub record Case : Type 0 where
   pub capacity : ℕ
@@ -104,6 +110,7 @@ Claimed file t q (ends k x) =
 Claimed file t q (late set) = LateSet (tasksIn t) (has set)
 Claimed file t q (minimal set) = Minimal (tasksIn t) set
 Claimed file t q (load p a b) = b * loadOn t (placed q) p ≡ a * t .hyperperiod
+Claimed file t q (prints lines) = loadLines t q ≡ ascii lines
 
 abbrev pub EachHolds : List ℕ → Table → List ℕ → List Claim → Type 0
 EachHolds file t q [] = Unit {0}
@@ -116,7 +123,7 @@ abbrev pub AllHold : List Case → Type 0
 AllHold [] = Unit {0}
 AllHold (c ∷ cs) = Holds c × AllHold cs
 
--- ---- the rows, in 01's order
+-- ---- the rows, in 01's order, and then those of 02
 
 abbrev pub processor : ℕ → ℕ → Processor
 processor memory limit = record { memory = memory; limit = limit }
@@ -139,6 +146,17 @@ onTwo capacity tasks messages claims = record {
   tasks = tasks;
   messages = messages;
   placement = 0 ∷ 1 ∷ [];
+  claims = claims;
+}
+
+-- five processors of memory 100 and limit 1000, with a task on each
+abbrev pub onFive : List Task → List Claim → Case
+onFive tasks claims = record {
+  capacity = 0;
+  processors = processor 100 1000 ∷ processor 100 1000 ∷ processor 100 1000 ∷ processor 100 1000 ∷ processor 100 1000 ∷ [];
+  tasks = tasks;
+  messages = [];
+  placement = 0 ∷ 1 ∷ 2 ∷ 3 ∷ 4 ∷ [];
   claims = claims;
 }
 
@@ -181,4 +199,11 @@ cases =
     ∷ onTwo 1 (task 1 12 12 10 2 ∷ task 1 12 12 10 1 ∷ []) (message 0 1 6 ∷ message 1 0 6 ∷ []) (judged Kept (1 ∷ 1 ∷ []) (by 11 ∷ by 11 ∷ []) ∷ [])
     -- not 6 and 7
     ∷ onTwo 1 (task 1 12 12 10 2 ∷ task 1 12 12 10 1 ∷ []) (message 0 1 6 ∷ message 1 0 7 ∷ []) (judged (Broken Network 0) (1 ∷ 1 ∷ []) (by 11 ∷ by 11 ∷ []) ∷ [])
+    -- 02: 1/16 prints 62, 3/16 prints 188; 1/2000 prints 0, 3/2000 prints 2, and 999.5/1000 prints 1000
+    ∷ onFive (task 1 16 16 10 5 ∷ task 3 16 16 10 4 ∷ task 1 2000 2000 10 3 ∷ task 3 2000 2000 10 2 ∷ task 1999 2000 2000 10 1 ∷ [])
+    (load 0 1 16 ∷ load 1 3 16 ∷ load 2 1 2000 ∷ load 3 3 2000 ∷ load 4 1999 2000 ∷ prints "load 0 62\nload 1 188\nload 2 0\nload 3 2\nload 4 1000\n" ∷ [])
+    -- the limit is still tested on the exact load: 1/16 breaks limit 62, which it prints
+    ∷ onOne (processor 100 62) (task 1 16 16 10 1 ∷ []) (judged (Broken Utilisation 0) (1 ∷ []) (by 15 ∷ []) ∷ prints "load 0 62\n" ∷ [])
+    -- and keeps 63
+    ∷ onOne (processor 100 63) (task 1 16 16 10 1 ∷ []) (judged Kept (1 ∷ []) (by 15 ∷ []) ∷ prints "load 0 62\n" ∷ [])
     ∷ []

@@ -2,6 +2,7 @@
 ghost use mathlib.Core.Path.{_≡_};
 ghost use Prim.Native.Nat.{_+_, _*_, _/_, _≤_};
 ghost use lib.Dec.{ltb};
+ghost use Rattle.load.specs.Nearest.{nearest};
 
 // The work of a processor in one hyperperiod: 0 where it is idle, H where it is full.
 pub struct Load(pub u64);
@@ -43,11 +44,20 @@ impl Load {
         (limit as u64) * full.0 < 1000 * self.0
     }
 
-    // In thousandths of a full one, rounded down.
+    // In thousandths of a full one, to the nearest; an exact half to the even one.
     pub fn thousandths(self, h: u64) -> u64
         requires { ⌜ (1 ≤ h) × (self .0 ≤ 24 * 1000000000) ⌝ }
-        ensures { λ r. ⌜ r ≡ 1000 * self .0 / h ⌝ }
+        ensures { λ r. ⌜ r ≡ nearest (self .0) h ⌝ }
     {
-        1000 * self.0 / h
+        let x = 1000 * self.0;
+        let low = x / h;
+        let twice = 2 * (x % h);
+        if twice < h {
+            return low;
+        }
+        if h < twice {
+            return low + 1;
+        }
+        low + low % 2
     }
 }

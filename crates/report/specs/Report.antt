@@ -1,11 +1,12 @@
 -- The lines of a search answer (01, "The program"). Assumes nothing.
 use mathlib.Core.Bool.{Bool, true, false}
 use mathlib.Core.List.{List, _++_}
-use Prim.Native.Nat.{ℕ, _+_, _-_, _*_, _/_}
+use Prim.Native.Nat.{ℕ, _+_, _-_, _/_}
 use lib.Dec.{eqb}
 use lib.ListN.{length, getD, take, drop}
 use Rattle.wire.specs.Wire.{markAt, pieces}
 use Rattle.table.specs.declared.Table.{Table}
+use Rattle.load.specs.Nearest.{nearest}
 use Rattle.rules.specs.Placement.{placed}
 use Rattle.rules.specs.Rules.{loadOn}
 use Rattle.judge.specs.declared.Judged.{Judged}
@@ -29,9 +30,9 @@ standOf q j deadlines k = record {
 abbrev pub taskLines : List ℕ → Judged → List ℕ → List ℕ
 taskLines q j deadlines = pieces (length q) (λ k. taskLine (standOf q j deadlines k))
 
--- 01: its load in thousandths of H, rounded down
+-- 01: its load in thousandths of H; 02: the nearest one
 abbrev pub thousandths : Table → List ℕ → ℕ → ℕ
-thousandths t q p = 1000 * loadOn t (placed q) p / t .hyperperiod
+thousandths t q p = nearest (loadOn t (placed q) p) (t .hyperperiod)
 
 -- 01: load lines give the processor and its load
 abbrev pub loadLines : Table → List ℕ → List ℕ

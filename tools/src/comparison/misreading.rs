@@ -1,10 +1,14 @@
-//! Ways in which a tool could misread a table, or what late or a margin means. A comparison must notice each.
+//! Ways in which a tool could misread a table, or what late, a margin or a rounded load means. A comparison
+//! must notice each.
 
 use crate::generate::sets::load;
-use crate::judge::{Placed, judge_tasks};
+use crate::judge::{Placed, RULES, Rule, judge_tasks};
 use crate::model::{Table, Task, hyperperiod};
 use crate::reader::read;
+use crate::rounding::nearest_thousandth;
 use crate::schedule::{Lateness, late, members};
+use crate::search::enumerated::next_placement;
+use std::iter::successors;
 
 type Misreading = (&'static str, fn(&mut Table));
 
@@ -144,4 +148,43 @@ pub fn misjudged(change: fn(&mut Written), file: &[u8], placement: &[u8], out: &
         });
     }
     code
+}
+
+/// A load in thousandths of the hyperperiod.
+pub type Rounding = fn(u64, u64) -> u64;
+
+pub const WRONG_ROUNDINGS: [(&str, Rounding); 7] = [
+    ("rounded up", |load, hyperperiod| (1000 * load).div_ceil(hyperperiod)),
+    ("rounded down, as before the request", |load, hyperperiod| 1000 * load / hyperperiod),
+    ("a half always up", half_up),
+    ("a half always down", half_down),
+    ("a half to the odd one", |load, hyperperiod| match half_up(load, hyperperiod) {
+        odd if odd % 2 == 1 => odd,
+        _ => half_down(load, hyperperiod),
+    }),
+    ("by the next digit alone", |load, hyperperiod| nearest_thousandth(10_000 * load / hyperperiod, 10_000)),
+    ("in single precision", |load, hyperperiod| {
+        (1000.0 * load as f32 / hyperperiod as f32).round_ties_even() as u64
+    }),
+];
+
+fn half_up(load: u64, hyperperiod: u64) -> u64 {
+    (2000 * load + hyperperiod) / (2 * hyperperiod)
+}
+
+fn half_down(load: u64, hyperperiod: u64) -> u64 {
+    (2000 * load).saturating_sub(hyperperiod).div_ceil(2 * hyperperiod)
+}
+
+/// The first placement if the limits are tested on the rounded loads, by trying all.
+pub fn first_by_rounded_loads(table: &Table) -> Option<Vec<u8>> {
+    let processors = table.processors.len();
+    let keeps = |placement: &Vec<u8>| {
+        let placed = Placed { table, placement };
+        let rounded = |on| nearest_thousandth(placed.load(on), u64::from(table.hyperperiod));
+        RULES.into_iter().filter(|&rule| rule != Rule::Utilisation).all(|rule| placed.keeps(rule))
+            && (0..processors).all(|on| rounded(on) <= u64::from(table.processors[on].limit))
+    };
+    let next = |placement: &Vec<u8>| next_placement(placement.clone(), processors);
+    successors(Some(vec![0; table.tasks.len()]), next).find(keeps)
 }

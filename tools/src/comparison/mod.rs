@@ -7,9 +7,10 @@ pub mod explaining;
 pub mod judging;
 pub mod lateness;
 pub mod listings;
+pub mod loads;
 pub mod margins;
 #[cfg(test)]
-mod misreading;
+pub mod misreading;
 pub mod printing;
 pub mod reading;
 pub mod responses;

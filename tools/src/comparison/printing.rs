@@ -1,9 +1,11 @@
 //! Checks all that a program prints, against the independent reader, search and judge. Which conflicts are
 //! listed and in which order is free: these are checked, everything else is compared to the letter.
 
+use super::loads::Loads;
 use super::searching::PROGRAMS_BUFFER;
 use crate::generate::files::Sort;
-use crate::listing::{Listing, of_answer, parse};
+use crate::judge::Placed;
+use crate::listing::{Found, Listing, of_answer, parse};
 use crate::model::{CAUSES, Refusal, Table};
 use crate::program::{Ran, pieces};
 use crate::random::Random;
@@ -52,6 +54,8 @@ pub struct Tally {
     /// Listings with conflicts, and with an idle processor.
     pub with_conflicts: u64,
     pub with_idle: u64,
+    /// Where the exact load of each load line lies.
+    pub loads: Loads,
     /// By the refusal's number.
     pub refused: [u64; CAUSES.len() + 1],
     /// Files beyond what the program reads.
@@ -124,14 +128,15 @@ fn check_answer(table: &Table, listing: Listing) -> Result<Listing, Wrong> {
 
 /// By trying all placements where they are few.
 fn truth(table: &Table) -> Box<dyn Truth + '_> {
-    match table.processors.len().checked_pow(table.tasks.len() as u32) {
-        Some(0..=1_000) => Box::new(Enumerated::of(table, is_late)),
-        _ => Box::new(Pruned::of(table)),
+    match Enumerated::is_quick(table) {
+        true => Box::new(Enumerated::of(table, is_late)),
+        false => Box::new(Pruned::of(table)),
     }
 }
 
 impl Tally {
-    fn note(&mut self, file: &[u8], listing: &Listing) {
+    /// A file with the listing that was printed for it, and that is right.
+    pub fn note(&mut self, file: &[u8], listing: &Listing) {
         self.long += u64::from(file.len() > PROGRAMS_INPUT);
         self.empty += u64::from(file.is_empty());
         match listing {
@@ -142,9 +147,19 @@ impl Tally {
                 self.complete += u64::from(*complete);
                 self.cut += u64::from(!complete);
                 self.with_conflicts += u64::from(!conflicts.is_empty());
-                self.with_idle += u64::from(found.as_ref().is_some_and(|found| found.loads.contains(&0)));
+                found.iter().for_each(|found| self.note_loads(file, found));
             }
         }
+    }
+
+    /// By the exact loads: one that is printed as 0 need not be that of an idle processor.
+    fn note_loads(&mut self, file: &[u8], found: &Found) {
+        let table = read(file).expect("a file that was searched");
+        let placement = found.placement().expect("processors of the table");
+        let placed = Placed { table: &table, placement: &placement };
+        let loads: Vec<u64> = (0..table.processors.len()).map(|processor| placed.load(processor)).collect();
+        self.with_idle += u64::from(loads.contains(&0));
+        loads.into_iter().for_each(|load| self.loads.note(load, u64::from(table.hyperperiod)));
     }
 
     pub fn files(&self) -> u64 {
@@ -154,23 +169,23 @@ impl Tally {
     /// The outcome that was met least often, among them the refusals that a file can have.
     pub fn least(&self) -> u64 {
         let searched = [self.found, self.none, self.complete, self.cut, self.with_conflicts, self.with_idle];
-        let read = [self.long, self.empty];
+        let others = [self.long, self.empty, self.loads.least()];
         let refused = self.refused[1..=11].iter().copied();
-        searched.into_iter().chain(read).chain(refused).min().unwrap_or(0)
+        searched.into_iter().chain(others).chain(refused).min().unwrap_or(0)
     }
 }
 
 #[cfg(test)]
 mod tests {
     use super::*;
-    use crate::comparison::misreading::MISREADINGS;
+    use crate::comparison::misreading::{MISREADINGS, Rounding, WRONG_ROUNDINGS, first_by_rounded_loads};
     use crate::comparison::searching::search_pruned;
     use crate::file::encode;
     use crate::generate::files::sorts;
     use crate::generate::lamps::lamps;
-    use crate::listing::{Found, Stand, listing};
+    use crate::listing::{Stand, listing};
     use crate::margin::Margin;
-    use crate::search::places;
+    use crate::search::{head, places};
 
     /// A change by its name.
     type Change<'a, T> = (&'a str, &'a dyn Fn(&mut T));
@@ -189,7 +204,7 @@ mod tests {
     /// For all sorts but the lamps, whose conflicts are too many for the independent search.
     fn compared(program: Program) -> Compared {
         let quick = sorts().into_iter().filter(|&sort| sort != Sort::Lamps);
-        compare(30, quick.cycle().take(1_000), program)
+        compare(30, quick.cycle().take(1_200), program)
     }
 
     fn detected(what: &str, wrong: Program) -> Wrong {
@@ -219,6 +234,7 @@ mod tests {
             .unwrap_or_else(|difference| panic!("{difference:?}"));
         assert!(tally.found >= 100 && tally.none >= 100 && tally.with_conflicts >= 100, "{tally:?}");
         assert!(tally.refused[1..=11].iter().all(|&count| count >= 5), "{tally:?}");
+        assert!(tally.loads.least() >= 40, "{tally:?}");
     }
 
     #[test]
@@ -310,27 +326,53 @@ mod tests {
             let found = changed_facts(what, change);
             assert!(matches!(found, Wrong::Facts { .. }), "{what}: {found:?}");
         }
-        let rounded = detected("loads rounded up", &|pieces| {
-            let input = pieces.concat();
-            let mut listing = right(&input);
-            if let (Ok(table), Listing::Searched { found: Some(found), .. }) = (read(&input), &mut listing) {
-                round_up(&table, found);
-            }
-            printed(listing.to_string())
-        });
-        assert!(matches!(rounded, Wrong::Facts { .. }), "{rounded:?}");
     }
 
     fn change_margin(found: &mut Found, change: fn(i32) -> i32) {
         found.tasks.iter_mut().for_each(|stand| stand.margin = Margin::Known(change(stand.margin.number())));
     }
 
-    fn round_up(table: &Table, found: &mut Found) {
-        let placement: Vec<u8> = found.tasks.iter().map(|stand| stand.processor as u8).collect();
-        let placed = crate::judge::Placed { table, placement: &placement };
-        for (processor, load) in found.loads.iter_mut().enumerate() {
-            *load = (1000 * placed.load(processor)).div_ceil(u64::from(table.hyperperiod));
+    #[test]
+    fn wrong_roundings_are_detected() {
+        for (what, rounding) in WRONG_ROUNDINGS {
+            let found = detected(what, &|pieces| {
+                let input = pieces.concat();
+                let mut listing = right(&input);
+                if let (Ok(table), Listing::Searched { found: Some(found), .. }) =
+                    (read(&input), &mut listing)
+                {
+                    round_by(rounding, &table, found);
+                }
+                printed(listing.to_string())
+            });
+            assert!(matches!(found, Wrong::Facts { .. }), "{what}: {found:?}");
         }
+    }
+
+    fn round_by(rounding: Rounding, table: &Table, found: &mut Found) {
+        let placement = found.placement().expect("processors of the table");
+        let placed = Placed { table, placement: &placement };
+        for (processor, load) in found.loads.iter_mut().enumerate() {
+            *load = rounding(placed.load(processor), u64::from(table.hyperperiod));
+        }
+    }
+
+    /// Where all placements can be tried, the first one is another. The conflicts and the mark are right.
+    #[test]
+    fn limits_tested_on_rounded_loads_are_detected() {
+        let found = detected("rounded loads within the limits", &|pieces| {
+            let input = pieces.concat();
+            let listing = right(&input);
+            let wrong = |table: Table| {
+                let mut answer = listing.answer(&table)?;
+                let first = first_by_rounded_loads(&table);
+                answer[..2 + table.tasks.len()].copy_from_slice(&head(&table, first.as_deref()));
+                Some(of_answer(&table, &answer))
+            };
+            let wrong = read(&input).ok().filter(Enumerated::is_quick).and_then(wrong);
+            printed(wrong.unwrap_or(listing).to_string())
+        });
+        assert_eq!(found, Wrong::Answer(Fault::Head));
     }
 
     /// Changes of the placement, the conflicts and the mark.

@@ -3,6 +3,7 @@
 pub mod judging;
 pub mod paper;
 pub mod reading;
+pub mod rounding;
 pub mod searching;
 
 use crate::model::{Message, Processor, Task};

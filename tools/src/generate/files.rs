@@ -3,6 +3,7 @@
 use super::around::breaking;
 use super::crowded::{medium_table, small_table};
 use super::faulty::refused_file;
+use super::halves::halves;
 use super::lamps::lamps;
 use super::tables::{Shape, table};
 use crate::file::{encode, records};
@@ -20,6 +21,8 @@ pub enum Sort {
     Around,
     /// Numbers and counts at their limits.
     Limits,
+    /// Loads half way between two thousandths, or nearly so.
+    Halves,
     /// More conflicts than there are places, or nearly so.
     Lamps,
     /// Refused, for each cause equally often.
@@ -41,6 +44,7 @@ pub fn sorts() -> Vec<Sort> {
         (Sort::Medium, 1),
         (Sort::Around, 4),
         (Sort::Limits, 2),
+        (Sort::Halves, 4),
         (Sort::Lamps, 1),
         (Sort::Faulty, 8),
         (Sort::CutShort, 2),
@@ -59,6 +63,7 @@ impl Sort {
             Sort::Medium => encode(&medium_table(random)),
             Sort::Around => encode(&around(random)),
             Sort::Limits => encode(&at_the_limits(random)),
+            Sort::Halves => encode(&halves(random)),
             Sort::Lamps => encode(&lamps(random)),
             Sort::Faulty => refused_file(random).0,
             Sort::CutShort => cut_short(random),

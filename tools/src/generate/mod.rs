@@ -4,6 +4,7 @@ pub mod around;
 pub mod crowded;
 pub mod faulty;
 pub mod files;
+pub mod halves;
 pub mod lamps;
 pub mod loads;
 pub mod masks;

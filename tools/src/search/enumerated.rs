@@ -21,6 +21,12 @@ pub struct Enumerated<'a> {
 }
 
 impl Enumerated<'_> {
+    /// Whether there are no more than a thousand placements.
+    pub fn is_quick(table: &Table) -> bool {
+        let placements = table.processors.len().checked_pow(table.tasks.len() as u32);
+        placements.is_some_and(|count| count <= 1_000)
+    }
+
     /// Runs through up to m^n placements, so it is for small tables alone. All that it says of late sets is
     /// what `lateness` says: with the tick run's, no step rests on the response equation.
     pub fn of(table: &Table, lateness: Lateness) -> Enumerated<'_> {
@@ -70,7 +76,7 @@ impl Truth for Enumerated<'_> {
 }
 
 /// The next placement in the order in which task 0 weighs most.
-fn next_placement(mut placement: Vec<u8>, processors: usize) -> Option<Vec<u8>> {
+pub fn next_placement(mut placement: Vec<u8>, processors: usize) -> Option<Vec<u8>> {
     let task = placement.iter().rposition(|&processor| usize::from(processor) + 1 < processors)?;
     placement[task] += 1;
     placement[task + 1..].fill(0);
