@@ -123,7 +123,7 @@ abbrev pub AllHold : List Case → Type 0
 AllHold [] = Unit {0}
 AllHold (c ∷ cs) = Holds c × AllHold cs
 
--- ---- the rows, in 01's order, and then those of 02
+-- ---- the rows, in 01's order; 02's loads at the end
 
 abbrev pub processor : ℕ → ℕ → Processor
 processor memory limit = record { memory = memory; limit = limit }

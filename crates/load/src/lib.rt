@@ -44,7 +44,7 @@ impl Load {
         (limit as u64) * full.0 < 1000 * self.0
     }
 
-    // In thousandths of a full one, to the nearest; an exact half to the even one.
+    // In thousandths of a full one, to the nearest; an exact half to the even one. 24 tasks can make more than a full one.
     pub fn thousandths(self, h: u64) -> u64
         requires { ⌜ (1 ≤ h) × (self .0 ≤ 24 * 1000000000) ⌝ }
         ensures { λ r. ⌜ r ≡ nearest (self .0) h ⌝ }
