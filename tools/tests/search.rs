@@ -1,7 +1,7 @@
 //! The search: the tool's answers checked, on small tables by trying all placements and running each
 //! processor tick by tick, on medium ones by an independent search.
 
-use tools::comparison::searching::{Difference, Tally, compare_medium, compare_small};
+use tools::comparison::searching::{Difference, Tally, compare_long, compare_medium, compare_small};
 use tools::examples::{reading, searching, task};
 use tools::file::encode;
 use tools::generate::sets::free_table;
@@ -78,4 +78,12 @@ fn medium_tables() {
     let seed = 0x6D65_6469_756D;
     let tally = passed(seed, compare_medium(seed, 500, &tool::search));
     assert!(tally.least() >= 100, "an outcome that hardly occurs: {tally:?}");
+}
+
+#[test]
+fn tables_with_long_lists() {
+    let seed = 0x6C6F_6E67;
+    let tally = passed(seed, compare_long(seed, 100, &tool::search));
+    let outcomes = [tally.found, tally.none, tally.cut, tally.complete];
+    assert!(tally.long >= 300 && outcomes.iter().all(|&times| times >= 100), "hardly occurs: {tally:?}");
 }

@@ -5,12 +5,15 @@ use mathlib.Core.Bool.{Bool}
 use mathlib.Core.List.{List, [], _∷_, _++_, append-assoc, append-nil}
 use Prim.Native.Nat.{ℕ, zero, suc, _+_, _-_, _*_, _^_, _≤_, _<_}
 use native.Mathlib.Omega.{arith}
+use lib.Dec.{eqb}
 use lib.ListN.{length, getD, take, drop, length-append}
 use lib.Seq.{length-take-le, drop-at, drop-drop}
-use Rattle.wire.specs.Wire.{number, recordBytes, laid, Put}
-use Rattle.wire.proofs.Laws.{number-at, number-behind, record-length}
+use Rattle.finite.specs.Finite.{someBelow}
+use Rattle.finite.proofs.Some.{some-ext}
+use Rattle.wire.specs.Wire.{number, bytes, Bytes, bytesAt, recordBytes, laid, Put}
+use Rattle.wire.proofs.Laws.{number-at, number-behind, bytes-at-number, record-length}
 use Rattle.wire.proofs.Put.{put-length, put-then}
-use Rattle.answer.specs.Answer.{conflictBytes, records, endBytes, countOf, answerBytes, maskAt, Listing}
+use Rattle.answer.specs.Answer.{conflictBytes, records, endBytes, countOf, answerBytes, maskAt, isListed, Listing}
 
 -- ---- conflict records
 
@@ -39,6 +42,14 @@ mask-at (c ∷ cs) rest b (suc j) l =
     ∙ ap (λ (k : ℕ). number (conflictBytes c ++ (records cs ++ rest)) k 4) (omega arith)
     ∙ number-behind (conflictBytes c) (records cs ++ rest) 6 (6 * j + 2) 4 (record-length (78 ∷ 71 ∷ []) c)
     ∙ mask-at cs rest (λ i. b (suc i)) j (omega arith)
+
+-- the four mask bytes of record j are those of m exactly where its mask is m
+pub same-mask : (list : List ℕ) → Bytes list → (j m : ℕ) → m < 2 ^ 32 → bytesAt list (6 * j + 2) (bytes 4 m) ≡ eqb (maskAt list j) m
+same-mask list h j m b = bytes-at-number list h 4 (6 * j + 2) m b
+
+-- a mask is listed exactly where one of the masks of the list is the same
+pub listed-masks : (list : List ℕ) → Bytes list → (count m : ℕ) → m < 2 ^ 32 → isListed list count m ≡ someBelow count (λ j. eqb (maskAt list j) m)
+listed-masks list h count m b = some-ext count _ _ (λ j l. same-mask list h j m b)
 
 words-snoc : (cs : List ℕ) (m : ℕ) → ((j : ℕ) → getD cs j 0 < 2 ^ 32) → m < 2 ^ 32 → (j : ℕ) → getD (cs ++ (m ∷ [])) j 0 < 2 ^ 32
 words-snoc [] m b h zero = h

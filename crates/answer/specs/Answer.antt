@@ -4,8 +4,8 @@ use mathlib.Core.Bool.{Bool}
 use mathlib.Core.List.{List, [], _∷_, _++_}
 use Prim.Native.Nat.{ℕ, _+_, _-_, _*_, _/_, _^_, _≤_, _<_}
 use lib.ListN.{length, getD, drop, replicate}
-use Rattle.finite.specs.Finite.{only}
-use Rattle.wire.specs.Wire.{number, recordBytes}
+use Rattle.finite.specs.Finite.{only, someBelow}
+use Rattle.wire.specs.Wire.{number, bytes, bytesAt, recordBytes}
 
 -- 01: the head is `AL` and n processor bytes
 abbrev pub foundHead : List ℕ → List ℕ
@@ -43,6 +43,10 @@ answerBytes n head cs complete old = head ++ records cs ++ endBytes complete ++ 
 -- the mask of conflict record j in the part after the head (01: `NG` and a 32-bit mask each)
 abbrev pub maskAt : List ℕ → ℕ → ℕ
 maskAt list j = number list (6 * j + 2) 4
+
+-- 02, 2026-03: a mask is listed exactly when one of the first `count` records holds the same four mask bytes
+abbrev pub isListed : List ℕ → ℕ → ℕ → Bool
+isListed list count mask = someBelow count (λ j. bytesAt list (6 * j + 2) (bytes 4 mask))
 
 -- what the part after the head holds once cs are listed, where it held old (01: it is lent on to the writer of conflict records):
 -- the records and, behind them, what it held. There is room for the end, and each mask has 32 bits.

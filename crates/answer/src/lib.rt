@@ -3,10 +3,10 @@ ghost use mathlib.Core.Path.{_≡_};
 ghost use mathlib.Core.List.{_++_};
 ghost use Prim.Native.Nat.{_+_, _*_, _≤_};
 ghost use lib.ListN.{length, take, drop};
-ghost use Rattle.finite.specs.Finite.{firstBelow};
+ghost use Rattle.finite.specs.Finite.{someBelow, firstBelow};
 ghost use Rattle.mask.specs.Mask.{within};
-ghost use Rattle.wire.specs.Wire.{markBytes, laid};
-ghost use Rattle.answer.specs.Answer.{foundHead, noneHead, conflictBytes, endBytes, maskAt};
+ghost use Rattle.wire.specs.Wire.{bytes, bytesAt, markBytes, laid};
+ghost use Rattle.answer.specs.Answer.{foundHead, noneHead, conflictBytes, endBytes, maskAt, isListed};
 
 const AL: [u8; 2] = *b"AL";
 
@@ -55,12 +55,39 @@ pub fn append(list: &mut [u8], count: usize, mask: u32)
     wire::put_record(&mut list[at..], &NG, mask);
 }
 
+// The mask of conflict j, read as one word.
+pub fn mask_at(list: &[u8], j: usize) -> u32
+    requires { ⌜ 6 * j + 6 ≤ length (now list) ⌝ }
+    ensures { λ r. ⌜ r ≡ maskAt (now (list .entry)) j ⌝ }
+{
+    wire::word_at(list, 6 * j + 2)
+}
+
 // Whether conflict j is a subset of the set.
 pub fn holds(list: &[u8], j: usize, set: u32) -> bool
     requires { ⌜ 6 * j + 6 ≤ length (now list) ⌝ }
     ensures { λ r. ⌜ r ≡ within (maskAt (now (list .entry)) j) set ⌝ }
 {
-    mask::subset(wire::word_at(list, 6 * j + 2), set)
+    mask::subset(mask_at(list, j), set)
+}
+
+// How many records a search of the list goes through at once. It is a constant, so that the compiler writes the loop over them out: a record then
+// takes one comparison and one branch.
+const BLOCK: usize = 16;
+
+// The first of the n conflicts from j on that is a subset of the set, n if none is.
+fn covering_in(list: &[u8], j: usize, n: usize, set: u32) -> usize
+    requires { ⌜ 6 * (j + n) ≤ length (now list) ⌝ }
+    ensures { λ r. ⌜ r ≡ firstBelow n (λ i. within (maskAt (now (list .entry)) (j + i)) set) ⌝ }
+{
+    let mut i: usize = 0;
+    while i < n {
+        if holds(list, j + i, set) {
+            return i;
+        }
+        i += 1;
+    }
+    n
 }
 
 // The first of the first `count` conflicts that is a subset of the set, `count` if none is.
@@ -69,13 +96,44 @@ pub fn covering(list: &[u8], count: usize, set: u32) -> usize
     ensures { λ r. ⌜ r ≡ firstBelow count (λ j. within (maskAt (now (list .entry)) j) set) ⌝ }
 {
     let mut j: usize = 0;
-    while j < count {
-        if holds(list, j, set) {
-            return j;
+    while BLOCK <= count - j {
+        let i = covering_in(list, j, BLOCK, set);
+        if i < BLOCK {
+            return j + i;
         }
-        j += 1;
+        j += BLOCK;
     }
-    count
+    j + covering_in(list, j, count - j, set)
+}
+
+// Whether one of the `count` conflicts from j on has this mask: one word, one comparison for each.
+fn listed_in(list: &[u8], j: usize, count: usize, mask: u32) -> bool
+    requires { ⌜ 6 * (j + count) ≤ length (now list) ⌝ }
+    ensures { λ r. ⌜ r ≡ someBelow count (λ i. bytesAt (now (list .entry)) (6 * (j + i) + 2) (bytes 4 mask)) ⌝ }
+{
+    let mut i: usize = 0;
+    while i < count {
+        if mask_at(list, j + i) == mask {
+            return true;
+        }
+        i += 1;
+    }
+    false
+}
+
+// Whether one of the first `count` conflicts has this mask.
+pub fn listed(list: &[u8], count: usize, mask: u32) -> bool
+    requires { ⌜ 6 * count ≤ length (now list) ⌝ }
+    ensures { λ r. ⌜ r ≡ isListed (now (list .entry)) count mask ⌝ }
+{
+    let mut j: usize = 0;
+    while BLOCK <= count - j {
+        if listed_in(list, j, BLOCK, mask) {
+            return true;
+        }
+        j += BLOCK;
+    }
+    listed_in(list, j, count - j, mask)
 }
 
 // Puts the end at the start of a lent part.

@@ -13,7 +13,7 @@ use Rattle.schedule.specs.Periodic.{Tasks, LateSet}
 use Rattle.schedule.specs.Response.{lateTest}
 use Rattle.conflict.specs.Conflict.{Minimal}
 use Rattle.wire.specs.Wire.{laid}
-use Rattle.answer.specs.Answer.{conflictBytes, records, maskAt}
+use Rattle.answer.specs.Answer.{conflictBytes, records, maskAt, isListed}
 use Rattle.late_cache.specs.LateCache.{LateCache, placeOf, withVerdict}
 use Rattle.nogoods.specs.declared.Mode.{Mode}
 use Rattle.nogoods.specs.declared.Tested.{Tested}
@@ -39,6 +39,13 @@ pub record Nogoods (s : Tasks) (list : List ℕ) (count : ℕ) : Type 0 where
 -- the list is full: one more record and the end do not fit
 abbrev pub full : List ℕ → ℕ → Bool
 full list count = ltb (length list) (6 * count + 9)
+
+-- a conflict goes behind the listed ones unless it is one of them (02, 2026-03): how many are listed then, and the list
+abbrev pub countWith : List ℕ → ℕ → ℕ → ℕ
+countWith list count c = cond (isListed list count c) count (count + 1)
+
+abbrev pub listWith : List ℕ → ℕ → ℕ → List ℕ
+listWith list count c = cond (isListed list count c) list (laid (6 * count) (conflictBytes c) list)
 
 -- from old to new the listed conflicts stay, P is true of each one more, and so do the bytes behind them
 pub record Grows (P : ℕ → Type 0) (old : List ℕ) (before : ℕ) (new : List ℕ) (count : ℕ) : Type 0 where

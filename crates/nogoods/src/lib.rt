@@ -1,10 +1,10 @@
 // The test of a set of tasks for one processor, and the list of conflicts that it fills.
 ghost use mathlib.Core.Path.{_≡_};
-ghost use Prim.Native.Nat.{_*_, _≤_, _<_};
+ghost use Prim.Native.Nat.{_+_, _*_, _≤_, _<_};
 ghost use lib.Dec.{T};
 ghost use lib.ListN.{length, set};
 ghost use Rattle.schedule.specs.Arrays.{tasksOf, InLimits};
-ghost use Rattle.nogoods.specs.Nogoods.{Nogoods, full, coveredBy, wordOf, hinted, CoverCache, cleared, opened, tabled, lookedFor, KnownSets, cacheAfter, Noted};
+ghost use Rattle.nogoods.specs.Nogoods.{Nogoods, full, countWith, listWith, coveredBy, wordOf, hinted, CoverCache, cleared, opened, tabled, lookedFor, KnownSets, cacheAfter, Noted};
 use late_cache::LateCache;
 use schedule::Timing;
 
@@ -99,6 +99,18 @@ pub fn covered(list: &[u8], count: usize, set: u32, lateness: &mut LateCache) ->
     covered_by_full(list, count, set, lateness)
 }
 
+// Puts a conflict behind the listed ones unless it is one of them, so that all stay different. How many are listed then.
+fn append_unlisted(list: &mut [u8], count: usize, conflict: u32) -> usize
+    requires { ⌜ 6 * count + 6 ≤ length (now list) ⌝ }
+    ensures { λ r. ⌜ (r ≡ countWith (now (list .entry)) count conflict) × (now (list .exit) ≡ listWith (now (list .entry)) count conflict) ⌝ }
+{
+    if answer::listed(list, count, conflict) {
+        return count;
+    }
+    answer::append(list, count, conflict);
+    count + 1
+}
+
 // Tests a set. Where conflicts are listed, a late set must hold a listed one: one of its own is appended while there is room.
 pub fn test(
     timing: &Timing,
@@ -128,9 +140,8 @@ pub fn test(
         return Tested { bad: false, count };
     }
     let conflict = conflict::extract(timing, n, set);
-    answer::append(list, count, conflict);
     Tested {
         bad: true,
-        count: count + 1,
+        count: append_unlisted(list, count, conflict),
     }
 }

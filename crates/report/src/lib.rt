@@ -116,7 +116,7 @@ fn put_conflicts(text: &mut [u8], at: usize, n: usize, list: &[u8], count: usize
     let mut end = at;
     let mut j: usize = 0;
     while j < count {
-        end = lines::conflict_line(text, end, n, wire::word_at(list, 6 * j + 2));
+        end = lines::conflict_line(text, end, n, answer::mask_at(list, j));
         j += 1;
     }
     end

@@ -4,12 +4,14 @@ use mathlib.Core.Bool.{Bool, true, false, _&&_}
 use mathlib.Core.List.{List, [], _∷_, _++_}
 use Prim.Native.Nat.{ℕ, zero, suc, _+_, _*_, _/_, _%_, _^_, _≤_, _<_}
 use native.Mathlib.Nat.{pow-suc, pow-succ', pow-zero, one-le-pow, div-lt-iff-lt-mul, div-add-mod, div-div-eq-div-mul, zero-add, add-zero, suc-add, add-suc, mul-assoc}
+use native.Mathlib.Numerals.{add-one}
+use native.Mathlib.Decide.{ℕ-discrete}
 use native.Mathlib.Omega.{arith}
-use borrow.Author.Tests.{eqb-true, eq-eqb}
+use borrow.Author.Tests.{eqb-true, eq-eqb, ne-eqb}
 use lib.Dec.{eqb}
 use lib.ListN.{length, getD, take, drop, length-drop}
 use lib.Seq.{length-take-le, take-at, drop-at, take-append-le, drop-append-le, drop-append-add, getD-drop, getD-append-seam, getD-append-add, getD-take, take-nil}
-use Rattle.wire.specs.Wire.{little, number, bytes, Bytes, markAt, recordBytes}
+use Rattle.wire.specs.Wire.{little, number, bytes, Bytes, bytesAt, markAt, recordBytes}
 
 -- a list of bytes, in part
 
@@ -116,6 +118,24 @@ number-add s at (suc w) u =
 
 pub number-one : (s : List ℕ) (at : ℕ) → number s at 1 ≡ getD s at 0
 number-one s at = omega (arith, number-suc s at 0, number-zero s (suc at))
+
+-- the bytes of a number stand at a place exactly where the number there is the same
+
+eqb-parts : (x y v : ℕ) → x < 256 → (eqb x (v % 256) && eqb y (v / 256)) ≡ eqb (x + 256 * y) v
+eqb-parts x y v l = go (ℕ-discrete x (v % 256)) (ℕ-discrete y (v / 256))
+  where
+    go : Dec (x ≡ v % 256) → Dec (y ≡ v / 256) → (eqb x (v % 256) && eqb y (v / 256)) ≡ eqb (x + 256 * y) v
+    go (yes a) (yes b) = rw (eq-eqb x (v % 256) a, eq-eqb y (v / 256) b, eq-eqb (x + 256 * y) v (omega arith)) refl
+    go (yes a) (no b) = rw (eq-eqb x (v % 256) a, ne-eqb y (v / 256) b, ne-eqb (x + 256 * y) v (λ e. b (omega arith))) refl
+    go (no a) b = rw (ne-eqb x (v % 256) a, ne-eqb (x + 256 * y) v (λ e. a (omega arith))) refl
+
+pub bytes-at-number : (s : List ℕ) → Bytes s → (w at v : ℕ) → v < 256 ^ w → bytesAt s at (bytes w v) ≡ eqb (number s at w) v
+unfolding bytesAt bytes
+bytes-at-number s h zero at v l = sym (eq-eqb (number s at 0) v (omega (arith, number-zero s at, pow-zero 256)))
+bytes-at-number s h (suc w) at v l =
+    ap (λ (t : Bool). eqb (getD s at 0) (v % 256) && t) (bytes-at-number s h w (at + 1) (v / 256) (div-lt-iff-lt-mul (omega arith) .1 (rw pow-suc at l)))
+    ∙ eqb-parts (getD s at 0) (number s (at + 1) w) v (h at)
+    ∙ ap (λ (n : ℕ). eqb n v) (rw (add-one at) (sym (number-suc s at w)))
 
 -- the bytes of a number of four
 pub bytes-four : (v : ℕ) → bytes 4 v ≡ v % 256 ∷ v / 256 % 256 ∷ v / 65536 % 256 ∷ v / 16777216 % 256 ∷ []

@@ -1,6 +1,6 @@
 -- Numbers and marks in a list of bytes. Assumes nothing.
 use mathlib.Core.Path.{_≡_}
-use mathlib.Core.Bool.{Bool, _&&_}
+use mathlib.Core.Bool.{Bool, true, _&&_}
 use mathlib.Core.List.{List, [], _∷_, _++_}
 use Prim.Native.Nat.{ℕ, zero, suc, _+_, _*_, _/_, _%_, _≤_, _<_}
 use lib.Dec.{eqb}
@@ -23,6 +23,11 @@ bytes (suc w) v = v % 256 ∷ bytes w (v / 256)
 -- a list of bytes
 abbrev pub Bytes : List ℕ → Type 0
 Bytes s = (k : ℕ) → getD s k 0 < 256
+
+-- these bytes stand at a place, one after another (02, 2026-03: the same four mask bytes)
+unfoldable pub bytesAt : List ℕ → ℕ → List ℕ → Bool
+bytesAt s at [] = true
+bytesAt s at (b ∷ bs) = eqb (getD s at 0) b && bytesAt s (at + 1) bs
 
 -- the two bytes of the mark m stand at a place (01: each record begins with a two-byte mark in ASCII)
 unfoldable pub markAt : List ℕ → ℕ → List ℕ → Bool

@@ -2,7 +2,7 @@
 //! tick, and on medium ones.
 
 use crate::file::encode;
-use crate::generate::crowded::{medium_table, small_table};
+use crate::generate::crowded::{medium_table, small_table, table_with_a_long_list};
 use crate::generate::faulty::refused_file;
 use crate::model::{Cause, Refusal, Table};
 use crate::random::Random;
@@ -48,6 +48,8 @@ pub struct Tally {
     pub complete: u64,
     pub complete_and_full: u64,
     pub conflicts: u64,
+    /// Lists of more than 32 conflicts.
+    pub long: u64,
     pub refused: u64,
     pub with_co_resident: u64,
     pub with_exclusive: u64,
@@ -81,6 +83,7 @@ impl Tally {
         self.complete += u64::from(listing.complete && !full);
         self.complete_and_full += u64::from(listing.complete && full);
         self.conflicts += listing.conflicts.len() as u64;
+        self.long += u64::from(listing.conflicts.len() > 32);
     }
 }
 
@@ -111,10 +114,24 @@ pub fn compare_small(seed: u64, tables: usize, candidate: Search) -> Result<Tall
 
 /// Searches so many medium tables, each with some lengths of the buffer.
 pub fn compare_medium(seed: u64, tables: usize, candidate: Search) -> Result<Tally, Difference> {
+    compare_some_lengths(seed, tables, medium_table, candidate)
+}
+
+/// The same for tables with long lists of conflicts.
+pub fn compare_long(seed: u64, tables: usize, candidate: Search) -> Result<Tally, Difference> {
+    compare_some_lengths(seed, tables, table_with_a_long_list, candidate)
+}
+
+fn compare_some_lengths(
+    seed: u64,
+    tables: usize,
+    next_table: fn(&mut Random) -> Table,
+    candidate: Search,
+) -> Result<Tally, Difference> {
     let mut random = Random::new(seed);
     let mut comparison = Comparison::new(seed, candidate);
     for _ in 0..tables {
-        comparison.some_lengths(&medium_table(&mut random))?;
+        comparison.some_lengths(&next_table(&mut random))?;
     }
     Ok(comparison.tally)
 }
@@ -359,6 +376,21 @@ mod tests {
             buffer[shortest_answer(&read(file)?) - 4] ^= 1;
             Ok(count)
         });
+    }
+
+    #[test]
+    fn a_conflict_again_in_a_long_list_is_detected() {
+        for number in [0, 15, 16, 31, 32] {
+            has_found(
+                "one again",
+                Fault::Repeated,
+                compare_long(10, 1, &|file, buffer| {
+                    let count = search_pruned(file, buffer)?;
+                    let again = listed(&read(file)?, &buffer[..count]).get(number).copied();
+                    Ok(again.map_or(count, |mask| add_conflict(buffer, count, mask)))
+                }),
+            );
+        }
     }
 
     #[test]

@@ -2,7 +2,7 @@
 
 use super::sets::{crowded_set, free_table, load, random_set};
 use super::tables::groups;
-use crate::model::{Message, Processor, Table};
+use crate::model::{Message, Processor, Table, Task};
 use crate::random::Random;
 
 /// At most 2^8, 3^6, 4^4 or 8^3 placements.
@@ -52,6 +52,20 @@ pub fn medium_table(random: &mut Random) -> Table {
             return table;
         }
     }
+}
+
+/// 10 to 12 tasks on three to five processors. Any four of them and most threes are late on one processor,
+/// so most lists have more than a hundred conflicts.
+pub fn table_with_a_long_list(random: &mut Random) -> Table {
+    let count = 10 + random.below(3);
+    let mut priorities: Vec<u16> = (1..=count as u16).collect();
+    random.shuffle(&mut priorities);
+    let task = |priority| {
+        let execution = random.within(17, 30);
+        Task { execution, period: 120, deadline: 60, memory: 0, priority, residence: 1 }
+    };
+    let tasks = priorities.into_iter().map(task).collect();
+    free_table(tasks, 3 + random.below(3))
 }
 
 /// Whether all processors together have the memory and the time for all tasks. Where they have not,

@@ -1,4 +1,4 @@
--- `holds` meets its contract: the word read is the mask of the record.
+-- `holds` meets its contract: what is read is the mask of the record.
 use mathlib.Core.Path.{ap, _∙_}
 use Prim.Native.Nat.{ℕ}
 use borrow.Author.Needs.{needs}
@@ -10,8 +10,6 @@ pub holds-spec : {M : Type 1} → statement M
 holds-spec =
     tie.close
     (tie.spec
-    (λ c. search needs)  -- mul-word-at
-    (λ c. search needs)  -- add-word-at
-    (λ c κs. search needs)  -- word-at-requires
+    (λ c κs. search needs)  -- mask-at-requires
     (λ c κs. search needs)  -- subset-requires
-    (λ c. let w = c .before in c .subset .ensures ∙ ap (λ (m : ℕ). within m (w .before .before .args .set)) (w .word-at .ensures)))  -- returns
+    (λ c. let w = c .before in c .subset .ensures ∙ ap (λ (m : ℕ). within m (w .before .before .args .set)) (w .mask-at .ensures)))  -- returns

@@ -1,12 +1,13 @@
 -- The list stays as it is, or takes a conflict of a late set that holds no listed one.
 use native.Mathlib.Omega.{arith}
 use borrow.Author.Needs.{needs}
-use borrow.Author.Tests.{not-true, not-false, le-ltb, ltb-false}
+use borrow.Author.Tests.{not-true, not-false, ltb-false}
 use mathlib.Core.Path.{_≡_, refl, sym, _∙_}
 use mathlib.Core.Bool.{true}
 use mathlib.Core.Logic.{inr}
-use Prim.Native.Nat.{_+_, _*_, _^_, _≤_, _<_}
+use Prim.Native.Nat.{_+_, _*_, _≤_}
 use lib.ListN.{length}
+use Rattle.wire.specs.Wire.{Bytes}
 use Rattle.mask.specs.Mask.{has}
 use Rattle.schedule.specs.Periodic.{LateSet}
 use Rattle.schedule.specs.Arrays.{tasksOf}
@@ -18,7 +19,7 @@ use Rattle.nogoods.specs.Nogoods.{KnownSets, cacheAfter}
 use Rattle.nogoods.proofs.Growth.{covered-yes, covered-no}
 use Rattle.nogoods.proofs.Covers.{known-grows, known-verdict, known-looked}
 use Rattle.nogoods.proofs.Testing.{test-is, cache-asked, cache-looked, unchanged, in-time}
-use Rattle.nogoods.proofs.Append.{list-appended, extended-append, covered-append}
+use Rattle.nogoods.proofs.Append.{noted-with}
 use Rattle.nogoods.proofs.test.Statement.{statement}
 use Rattle.nogoods.proofs.test.Tie as tie
 
@@ -117,8 +118,7 @@ test-spec =
       after (n .before),
     ))  -- returns-4
     (λ c κs. (search needs, late (c .before .before .before .before .before .before .before .before .before)))  -- extract-requires
-    (λ c κs. omega (arith, free-place (c .before .before)))  -- append-requires
-    (λ c. search needs)  -- add-t16
+    (λ c κs. omega (arith, free-place (c .before .before)))  -- append-unlisted-requires
     (λ c. search needs)  -- same-length-3
     (λ c.
     let m = c .before .before .before .before in
@@ -131,15 +131,8 @@ test-spec =
     let yes = both e in
     let v = n .before .covered in
     let free : 6 * a .count + 9 ≤ length (a .list .now) = free-place (m .before) in
-    let fits : m .extract .result < 2 ^ 32 = search needs in
-    let new = c .before .before .append .ensures in
-    let longer = extended-append w free fits new (m .extract .ensures) (covered-no (a .list .now) (a .count) (a .set) (v .ensures .0) (n .if3 .left)) in (
-      record {
-        value = test-is w _ _ (sym (yes .0) ∙ by-test b) (sym (yes .1)) (sym (n .if3 .left) ∙ v .ensures .0) (sym (le-ltb _ _ free));
-        bytes = list-appended w free fits new;
-        list = longer;
-        verdict = rw (yes .1) (covered-append w free fits new (m .extract .ensures .inside));
-      },
-      known-grows longer (looked (n .before)),
-      after (n .before),
-    )))  -- returns-5
+    let bytes : Bytes (a .list .now) = λ k. b .before .before .slice-known .given k .fits in
+    let made = c .before .before .append-unlisted .ensures in
+    let noted = noted-with w (a .mode) (made .0) (made .1) (m .extract .ensures) bytes (search needs) free
+    (sym (yes .0) ∙ by-test b) (sym (yes .1)) (sym (n .if3 .left) ∙ v .ensures .0) in
+    (noted, known-grows (noted .list) (looked (n .before)), after (n .before))))  -- returns-5

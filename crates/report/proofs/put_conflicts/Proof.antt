@@ -24,9 +24,7 @@ put-conflicts-spec =
     Inv-loop
     μ-loop
     (λ c. let a = c .before .before .args in (omega arith, omega arith, refl, put-none (λ i. conflictLine (a .n) (maskAt (a .list .now) i)) (a .text .now) (a .at) (omega (arith, c .before .before .pre .0))))  -- loop-holds
-    (λ c. search needs)  -- mul-word-at
-    (λ c. search needs)  -- add-word-at
-    (λ c κs. search needs)  -- word-at-requires
+    (λ c κs. search needs)  -- mask-at-requires
     (λ c κs. search needs)  -- conflict-line-requires
     (λ c. search needs)  -- add-j
     (λ c. omega arith)  -- loop-less
@@ -37,7 +35,7 @@ put-conflicts-spec =
       omega arith,
       omega (arith, v .conflict-line .ensures .1),
       v .conflict-line .kept .0 ∙ l .loop .inv .2,
-      put-more (λ i. conflictLine (a .n) (maskAt (a .list .now) i)) (l .loop .inv .3) (rw (← (w .word-at .ensures)) (v .conflict-line .ensures .0)),
+      put-more (λ i. conflictLine (a .n) (maskAt (a .list .now) i)) (l .loop .inv .3) (rw (← (w .mask-at .ensures)) (v .conflict-line .ensures .0)),
     ))  -- loop-again
     (λ c. search needs)  -- same-length
     (λ c. let l = c .before in
