@@ -1,5 +1,7 @@
 // The capacity bound by weights that adapt to a region: weights are looked for under which the open tasks weigh more than the processors can take.
 // Any weights are right, so no answer rests on how they are found.
+#![tactic(auto)]
+
 ghost use Rattle.std.specs.Prelude.{◌≡◌, ◌+◌, ◌*◌, ◌≤◌, ◌<◌, T};
 ghost use Rattle.mask.specs.Mask.{below};
 ghost use Rattle.region.specs.Given.{Given, Gives};
@@ -36,7 +38,7 @@ const START: Pace = Pace {
 };
 
 // Whether a region is given up, and the best weights that were found for it.
-#[derive(Drop)]
+#[derive(Clone, Copy)]
 struct Descended {
     bounded: Bounded,
     best: [u32; 24],

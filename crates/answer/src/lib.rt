@@ -1,4 +1,6 @@
 // The layout of the search answer in the caller's buffer: its head, the conflict records, and its end.
+#![tactic(auto)]
+
 ghost use Rattle.std.specs.Prelude.{◌≡◌, ◌++◌, ◌+◌, ◌*◌, ◌≤◌, length, take, drop};
 ghost use Rattle.finite.specs.Finite.{some_below, first_below};
 ghost use Rattle.mask.specs.Mask.{within};

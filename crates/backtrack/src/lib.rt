@@ -1,4 +1,6 @@
 // The search below a partial placement, in two modes: whether a placement without a late set exists there; and which conflicts rule out all of them.
+#![tactic(auto)]
+
 ghost use Rattle.std.specs.Prelude.{◌≡◌, true, ◌⊎◌, ◌+◌, ◌≤◌, ◌<◌, T};
 ghost use Rattle.mask.specs.Mask.{has};
 ghost use Rattle.rules.specs.Sets.{standing};
@@ -17,7 +19,7 @@ use schedule::Timing;
 
 // Whether a placement of a region was found, or none is known to be there; neither where the search gave up.
 // The tasks on each processor in the one that was found, and how many conflicts are listed then.
-#[derive(Drop)]
+#[derive(Clone, Copy)]
 pub struct Backtracked {
     pub found: bool,
     pub none: bool,

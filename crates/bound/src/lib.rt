@@ -1,4 +1,6 @@
 // A bound on the region below a state: the open tasks weigh more than all processors together can take, or the network carries too little.
+#![tactic(auto)]
+
 ghost use Rattle.std.specs.Prelude.{◌≡◌};
 ghost use Rattle.region.specs.Begins.{Begins, Opens};
 ghost use Rattle.region.specs.Given.{Given, Gives};

@@ -1,4 +1,6 @@
 // What is kept of the bounds on what a processor can take, so that they are seldom worked out twice.
+#![tactic(auto)]
+
 ghost use Rattle.std.specs.Prelude.{◌≡◌, ◌≤◌, ◌<◌};
 ghost use Rattle.bound_cache.specs.BoundCache.{entry_of, is_for, recall_of, keep_of};
 
@@ -8,7 +10,7 @@ use numbers::wide;
 pub type BoundCache = [u64; 12288];
 
 // Whether a bound is kept, and which.
-#[derive(Drop)]
+#[derive(Clone, Copy)]
 pub struct Recalled {
     pub hit: bool,
     pub top: u64,

@@ -1,4 +1,6 @@
 // Which open task the search places next. No answer rests on the choice: it decides only how long the search takes.
+#![tactic(auto)]
+
 ghost use Rattle.std.specs.Prelude.{◌≡◌, ◌<◌, ◌≤◌, T};
 ghost use Rattle.mask.specs.Mask.{below};
 ghost use Rattle.heuristics.specs.Heuristics.{failures, at};

@@ -1,4 +1,6 @@
 // Which open tasks each processor can take: those that the rules allow there and that make no late set with what it has. Conflicts may be listed.
+#![tactic(auto)]
+
 ghost use Rattle.std.specs.Prelude.{◌≡◌, ◌<◌, T};
 ghost use Rattle.mask.specs.Mask.{has};
 ghost use Rattle.table.specs.declared.Table.{Table};
@@ -18,21 +20,21 @@ use rows::{Messages, Rows};
 use schedule::Timing;
 
 // Whether a task may join a processor, and how many conflicts are listed then.
-#[derive(Drop)]
+#[derive(Clone, Copy)]
 struct Joining {
     able: bool,
     count: usize,
 }
 
 // The candidates for a processor, and how many conflicts are listed then.
-#[derive(Drop)]
+#[derive(Clone, Copy)]
 struct Chosen {
     set: u32,
     count: usize,
 }
 
 // The candidates for each processor, and how many conflicts are listed then.
-#[derive(Drop)]
+#[derive(Clone, Copy)]
 pub struct Candidates {
     pub sets: [u32; 8],
     pub count: usize,

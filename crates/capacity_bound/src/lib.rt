@@ -1,4 +1,6 @@
 // The capacity bound: the open tasks weigh more than all processors together can take.
+#![tactic(auto)]
+
 ghost use Rattle.std.specs.Prelude.{◌≡◌, ℕ, ◌-◌, ◌*◌, ◌≤◌, ◌<◌, T, length, get_or, false};
 ghost use Rattle.finite.specs.Finite.{sum_to};
 ghost use Rattle.mask.specs.Mask.{below};
@@ -20,7 +22,7 @@ use rows::{Messages, Rows};
 use schedule::Timing;
 
 // Whether a region is given up at once, and how many conflicts are listed then.
-#[derive(Drop)]
+#[derive(Clone, Copy)]
 pub struct Bounded {
     pub hopeless: bool,
     pub count: usize,
@@ -29,7 +31,7 @@ pub struct Bounded {
 // The same, by weights. `gap` is how much more the processors can take, by their bounds, than the open tasks weigh; `sets` has the heaviest set that
 // was found for each processor, with the tasks on it, or none where its bound was not made tighter; `calls` is how many calls the packings took. These
 // only guide the choice of other weights.
-#[derive(Drop)]
+#[derive(Clone, Copy)]
 pub struct Weighed {
     pub bounded: Bounded,
     pub gap: u64,
@@ -38,7 +40,7 @@ pub struct Weighed {
 }
 
 // A tighter bound for a processor, the heaviest set that was found for it, how many conflicts are listed then, and how many calls its packing took.
-#[derive(Drop)]
+#[derive(Clone, Copy)]
 pub struct Tightened {
     pub most: u64,
     pub set: u32,

@@ -1,4 +1,6 @@
 // The first broken rule of a placement that is given by the set of tasks on each processor.
+#![tactic(auto)]
+
 ghost use Rattle.std.specs.Prelude.{◌≡◌, ◌*◌, ◌≤◌, ◌<◌, get_or};
 ghost use Rattle.finite.specs.Finite.{some_below};
 ghost use Rattle.table.specs.Sound.{Sound};

@@ -1,4 +1,6 @@
 // Document 01's numbers: of a refusal's cause, a broken rule, a judgement, and a conflict check.
+#![tactic(auto)]
+
 ghost use Rattle.std.specs.Prelude.{◌≡◌, ◌≤◌};
 ghost use Rattle.table.specs.Refusal.{cause_number};
 ghost use Rattle.rules.specs.Rules.{rule_number};

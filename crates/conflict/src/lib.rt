@@ -1,4 +1,6 @@
 // Conflicts: whether a late set of tasks is minimal, and a minimal one within a late set.
+#![tactic(auto)]
+
 ghost use Rattle.std.specs.Prelude.{◌≡◌, ◌≤◌};
 ghost use Rattle.mask.specs.Mask.{has};
 ghost use Rattle.schedule.specs.Periodic.{LateSet};
@@ -14,7 +16,7 @@ use table::{Outcome, Table};
 use verdict::Cause;
 
 // What a conflict check finds. finding_number of specs/Conflict.antt gives its number.
-#[derive(Drop)]
+#[derive(Clone, Copy)]
 pub enum Finding {
     NoConflict,
     NotMinimal,
@@ -22,7 +24,7 @@ pub enum Finding {
 }
 
 // The answer to a conflict check: a refusal with its place, or what was found.
-#[derive(Drop)]
+#[derive(Clone, Copy)]
 pub enum Answer {
     Refused(Cause, usize),
     Found(Finding),

@@ -1,4 +1,6 @@
 // The search for weights of the capacity bound, round by round. Any weights are right, so no answer rests on how they are found.
+#![tactic(auto)]
+
 ghost use Rattle.std.specs.Prelude.{◌≡◌, ◌+◌, ◌*◌, ◌≤◌, ◌<◌, T};
 ghost use Rattle.mask.specs.Mask.{below};
 ghost use Rattle.subgradient.specs.Subgradient.{AtMost, heaviest};
@@ -7,7 +9,7 @@ ghost use Rattle.descent.specs.Descent.{begin_of, compared_of, turned_back_of, a
 // How weights are looked for: in how many rounds at most; by how many per cent of the gap they move first (alpha); after how many rounds without gain
 // the steps become smaller; after how many calls of packing it ends. Where the first gap is more than `far` times what the open tasks weigh, there is
 // only one round.
-#[derive(Drop)]
+#[derive(Clone, Copy)]
 pub struct Pace {
     pub rounds: u32,
     pub alpha: u64,
@@ -19,7 +21,7 @@ pub struct Pace {
 // The search for weights after some rounds: the weights of the next round, the direction in which they moved, and whether they have moved; the best
 // weights so far, with the least gap, and how many rounds ago that was (idle); the length of a step in per cent of the gap (alpha); how many calls of
 // packing were made; and how many rounds are left.
-#[derive(Drop)]
+#[derive(Clone, Copy)]
 pub struct Descent {
     pub weights: [u32; 24],
     pub direction: [u32; 24],

@@ -1,4 +1,6 @@
 // One open task on one processor: tested by the rules, then for lateness.
+#![tactic(auto)]
+
 ghost use Rattle.std.specs.Prelude.{◌<◌, T};
 ghost use Rattle.mask.specs.Mask.{has};
 ghost use Rattle.timing.specs.Timing.{tasks_in};
@@ -14,7 +16,7 @@ use rows::{Messages, Rows};
 use schedule::Timing;
 
 // A task on a processor: whether to go on from there, with which state, and how many conflicts are listed then.
-#[derive(Drop)]
+#[derive(Clone, Copy)]
 pub struct Entered {
     pub passes: bool,
     pub next: State,

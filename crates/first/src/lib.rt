@@ -1,4 +1,6 @@
 // The search of document 01 for the first placement: task by task, processors in rising number.
+#![tactic(auto)]
+
 ghost use Rattle.std.specs.Prelude.{◌<◌, T};
 ghost use Rattle.mask.specs.Mask.{has};
 ghost use Rattle.rules.specs.Placement.{and_task};
@@ -20,7 +22,7 @@ use rows::{Messages, Rows};
 use schedule::Timing;
 
 // A task on a processor: whether it is taken, the sets of a good placement, and what is listed then.
-#[derive(Drop)]
+#[derive(Clone, Copy)]
 struct Tried {
     taken: bool,
     on: [u32; 8],
@@ -28,7 +30,7 @@ struct Tried {
 }
 
 // The sets of the first placement, and what is listed then.
-#[derive(Drop)]
+#[derive(Clone, Copy)]
 pub struct Reached {
     pub on: [u32; 8],
     pub listed: Listed,

@@ -1,1 +1,2 @@
 // What the search must answer: definitions and laws, no function.
+#![tactic(auto)]

@@ -1,5 +1,7 @@
 // What guides the search, and changes as it goes: failure weights, the state of its random numbers, weights for the capacity bound. No answer rests on
 // them.
+#![tactic(auto)]
+
 ghost use Rattle.std.specs.Prelude.{◌≡◌, ◌/◌, ◌<◌};
 ghost use Rattle.heuristics.specs.Heuristics.{failures, numbers, random, nodes, at, with, heavier, next_state, one_more, noted};
 

@@ -1,4 +1,6 @@
 // The judgement of a placement, from the bytes of the file and of the placement.
+#![tactic(auto)]
+
 ghost use Rattle.std.specs.Prelude.{◌≡◌};
 ghost use Rattle.table.specs.Sound.{Sound};
 ghost use Rattle.schedule.specs.Arrays.{tasks_of};
@@ -12,7 +14,7 @@ use table::{Outcome, Table};
 use verdict::Cause;
 
 // What is answered on a placement.
-#[derive(Drop)]
+#[derive(Clone, Copy)]
 pub enum Judgement {
     Refused(Cause, usize),
     Kept,
@@ -20,7 +22,7 @@ pub enum Judgement {
 }
 
 // The margin of one task, in a struct since a field can be an array of structs and not one of enums.
-#[derive(Drop)]
+#[derive(Clone, Copy)]
 pub struct TaskMargin {
     pub margin: Margin,
 }
@@ -31,7 +33,7 @@ const NO_MARGIN: TaskMargin = TaskMargin {
 };
 
 // The judgement, and the response and the margin of each task; places beyond the tasks hold 0 and a known 0, and all do on a refusal.
-#[derive(Drop)]
+#[derive(Clone, Copy)]
 pub struct Judged {
     pub judgement: Judgement,
     pub responses: [u32; 24],
@@ -39,13 +41,13 @@ pub struct Judged {
 }
 
 // What is worked out for one task, and for all.
-#[derive(Drop)]
+#[derive(Clone, Copy)]
 struct TaskTimes {
     response: u32,
     margin: TaskMargin,
 }
 
-#[derive(Drop)]
+#[derive(Clone, Copy)]
 struct Times {
     responses: [u32; 24],
     margins: [TaskMargin; 24],

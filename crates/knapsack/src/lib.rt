@@ -1,4 +1,6 @@
 // How much more a processor can take: a bound on the weight of the open tasks that it can still hold, by recursion over their subsets.
+#![tactic(auto)]
+
 ghost use Rattle.std.specs.Prelude.{◌≡◌, ◌+◌, ◌<◌, get_or};
 ghost use Rattle.schedule.specs.Arrays.{tasks_of};
 ghost use Rattle.rows.specs.Rows.{memory_row, load_row, exclusion_row};
@@ -14,7 +16,7 @@ use schedule::Timing;
 // A processor and what it may still be given: the tasks on it, and the candidates, which are tried in a given order from `at` on; what is left of
 // its memory (space) and load (spare); the weight taken so far, and what that comes to with all candidates (reach). Only what is below `stop` counts;
 // `best` is reached by other candidates, and `best_set` is the heaviest set so far. `fuel` is how many calls of `most` may still try candidates.
-#[derive(Drop)]
+#[derive(Clone, Copy)]
 pub struct Pack {
     pub on: u32,
     pub candidates: u32,
@@ -31,7 +33,7 @@ pub struct Pack {
 
 // No less than the most weight that a processor can take; the tasks on it and those taken in the heaviest set that was found, of which nothing is
 // claimed, as it only guides the search; how many conflicts are listed then, and the fuel that is left.
-#[derive(Drop)]
+#[derive(Clone, Copy)]
 pub struct Packed {
     pub most: u64,
     pub set: u32,

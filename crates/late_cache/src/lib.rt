@@ -1,4 +1,6 @@
 // A cache of the sets that were tested for lateness, so that a set is seldom tested twice.
+#![tactic(auto)]
+
 ghost use Rattle.std.specs.Prelude.{◌≡◌};
 ghost use Rattle.mask.specs.Mask.{has};
 ghost use Rattle.schedule.specs.Periodic.{LateSet};

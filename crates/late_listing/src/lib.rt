@@ -1,5 +1,7 @@
 // The conflicts of a region without a replay: by the recursion over the late sets, where the decision was long and all late sets of the table have a
 // place in the list. When it is used is a heuristic: no answer rests on it.
+#![tactic(auto)]
+
 ghost use Rattle.std.specs.Prelude.{◌≡◌, List, ℕ, ◌+◌, ◌*◌, ◌<◌, length};
 ghost use Rattle.table.specs.declared.Table.{Table};
 ghost use Rattle.timing.specs.Timing.{tasks_in};

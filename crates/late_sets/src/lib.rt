@@ -1,4 +1,6 @@
 // Conflicts for every late set that could stand on a processor in a region, by recursion over the sets of tasks.
+#![tactic(auto)]
+
 ghost use Rattle.std.specs.Prelude.{List, ℕ, ◌<◌, T};
 ghost use Rattle.timing.specs.Timing.{tasks_in};
 ghost use Rattle.late_cache.specs.LateCache.{LateCache};
@@ -15,7 +17,7 @@ use schedule::Timing;
 use subsets::Subset;
 
 // Whether every late set holds a listed conflict; how many steps are left, and how many conflicts are listed then.
-#[derive(Drop)]
+#[derive(Clone, Copy)]
 pub struct Covering {
     pub complete: bool,
     pub steps: u32,

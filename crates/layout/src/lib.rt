@@ -1,9 +1,11 @@
 // The format of the table file: the kinds of record, their marks and sizes, and where the records of a kind stand.
+#![tactic(auto)]
+
 ghost use Rattle.std.specs.Prelude.{◌≡◌, ◌+◌, ◌≤◌, ◌<◌, length};
 ghost use Rattle.layout.specs.Format.{row, shape, shape_of, kind_at, count, start, series_of, place_in, place, longest, Counted};
 
 // The kinds of record, in the file's order.
-#[derive(Drop)]
+#[derive(Clone, Copy)]
 pub enum Kind {
     Network,
     Processor,
@@ -14,14 +16,14 @@ pub enum Kind {
 }
 
 // What the two bytes of a mark name.
-#[derive(Drop)]
+#[derive(Clone, Copy)]
 pub enum Mark {
     Known(Kind),
     Unknown,
 }
 
 // The records taken so far: how many of each kind, the first kind that may follow, the least common multiple of the periods.
-#[derive(Drop)]
+#[derive(Clone, Copy)]
 pub struct Progress {
     pub counts: [usize; 6],
     pub next: usize,
@@ -29,7 +31,7 @@ pub struct Progress {
 }
 
 // The numbers of a kind: its place in the order, a record's bytes, how many there may be, the first kind that may follow.
-#[derive(Drop)]
+#[derive(Clone, Copy)]
 pub struct Shape {
     pub order: usize,
     pub size: usize,
@@ -38,7 +40,7 @@ pub struct Shape {
 }
 
 // Records of one kind: where the first stands, and the bytes of each.
-#[derive(Drop)]
+#[derive(Clone, Copy)]
 pub struct Series {
     first: usize,
     size: usize,

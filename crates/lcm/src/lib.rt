@@ -1,4 +1,6 @@
 // The least common multiple, by Euclid's algorithm.
+#![tactic(auto)]
+
 ghost use Rattle.std.specs.Prelude.{◌≡◌, ◌≤◌};
 ghost use Rattle.lcm.specs.Lcm.{lcm, Gcd};
 

@@ -1,4 +1,6 @@
 // The lines of the program's listing that hold numbers: each is put at a place of a lent buffer, and its end is returned.
+#![tactic(auto)]
+
 ghost use Rattle.std.specs.Prelude.{◌+◌, ◌≤◌, ◌<◌, length};
 ghost use Rattle.wire.specs.Wire.{Put};
 ghost use Rattle.lines.specs.Lines.{item, margin_text, task_line, pair_line, load_line, member, conflict_line, refused_line};
@@ -28,7 +30,7 @@ const CONFLICT: [u8; 8] = *b"conflict";
 const REFUSED: [u8; 8] = *b"refused ";
 
 // Where a task stands, and how it fares there.
-#[derive(Drop)]
+#[derive(Clone, Copy)]
 pub struct Stand {
     pub task: usize,
     pub processor: u8,

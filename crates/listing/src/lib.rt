@@ -1,4 +1,6 @@
 // The text that the program prints: the listing of what the search answers.
+#![tactic(auto)]
+
 ghost use Rattle.listing.specs.Listing.{Printed};
 
 use search::Answer;

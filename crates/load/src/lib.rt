@@ -1,9 +1,11 @@
 // The load of a processor.
+#![tactic(auto)]
+
 ghost use Rattle.std.specs.Prelude.{◌≡◌, ◌+◌, ◌*◌, ◌/◌, ◌≤◌, ltb};
 ghost use Rattle.load.specs.Nearest.{nearest};
 
 // The work of a processor in one hyperperiod: 0 where it is idle, H where it is full.
-#[derive(Drop)]
+#[derive(Clone, Copy)]
 pub struct Load(pub u64);
 
 impl Load {

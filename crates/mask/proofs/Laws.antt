@@ -1,7 +1,7 @@
 -- Laws of masks, for any width. Assumes nothing.
 use mathlib.Core.Path.{◌≡◌, refl, sym, ap, ◌∙◌}
 use mathlib.Core.Logic.{◌≢◌, ⊎_elim}
-use mathlib.Core.Bool.{Bool, true, false, not, ◌&&◌, ◌||◌, and_false}
+use mathlib.Core.Bool.{Bool, true, false, not, ◌&&◌, ◌||◌, and-false}
 use Prim.Native.Nat.{ℕ, zero, suc, ◌+◌, ◌-◌, ◌*◌, ◌/◌, ◌%◌, ◌^◌, ◌<◌, ◌≤◌, min, max}
 use native.Mathlib.Nat.{one-mul, div-one, div-eq_of_lt, div-mul-le_self, mod-le, mul-le-mul_right, pow-suc, zero-div, mul_assoc, le-div_iff_mul-le, div-lt_iff_lt-mul}
 use native.Mathlib.Nat.{le_of_suc-le-suc, lt_of_not-le, lt_of_lt_of_le, lt_of_le_of_lt, le_antisymm, le_of_eq}
@@ -157,7 +157,7 @@ has_mask (suc n) p k = go (p n) refl (ℕ_discrete k n) (has_mask n p k)
     go false e (yes q) ih = rw (← mask_skip n p e) (ih ∙ off (ltb k n) ∙ sym (off (ltb k (suc n))))
       where
         off : (b : Bool) → (b && p k) ≡ false
-        off b = rw (q, e) (and_false b)
+        off b = rw (q, e) (and-false b)
     go false e (no q) ih = rw (← mask_skip n p e, ← wider q) ih
 
 -- ---- masks with the same members

@@ -1,4 +1,6 @@
 // Sets of numbers below 32 as masks: bit k stands for the number k.
+#![tactic(auto)]
+
 ghost use Rattle.std.specs.Prelude.{◌≡◌, true, ◌&&◌, ◌<◌, leb};
 ghost use Rattle.mask.specs.Mask.{has, within, below, cardinality, insert_of, remove_of, lowest_of, mask_of};
 

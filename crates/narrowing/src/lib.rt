@@ -1,4 +1,6 @@
 // Which open tasks may still stand on each processor, as the state of the search keeps it. Nothing is listed.
+#![tactic(auto)]
+
 ghost use Rattle.std.specs.Prelude.{◌≡◌, ◌&&◌, ◌*◌, ◌≤◌, ◌<◌, T, length};
 ghost use Rattle.mask.specs.Mask.{has, Subset};
 ghost use Rattle.table.specs.declared.Table.{Table};

@@ -1,4 +1,6 @@
 // Messages that must cross the network, because the tasks at their ends cannot meet any more.
+#![tactic(auto)]
+
 ghost use Rattle.std.specs.Prelude.{◌≡◌, ◌≤◌, ◌<◌, get_or, ◌&&◌, ◌||◌};
 ghost use Rattle.finite.specs.Finite.{some_below};
 ghost use Rattle.mask.specs.Mask.{has};

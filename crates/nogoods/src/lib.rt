@@ -1,4 +1,6 @@
 // The test of a set of tasks for one processor, and the list of conflicts that it fills.
+#![tactic(auto)]
+
 ghost use Rattle.std.specs.Prelude.{◌≡◌, ◌+◌, ◌*◌, ◌≤◌, ◌<◌, T, length, set};
 ghost use Rattle.schedule.specs.Arrays.{tasks_of, InLimits};
 ghost use Rattle.nogoods.specs.Nogoods.{Nogoods, full, count_with, list_with, covered_by, word_of, hinted, CoverCache, cleared, opened, tabled, looked_for, KnownSets, cache_after, Noted};
@@ -7,14 +9,14 @@ use late_cache::LateCache;
 use schedule::Timing;
 
 // How the search runs: whether it lists conflicts, and whether it may give up.
-#[derive(Drop)]
+#[derive(Clone, Copy)]
 pub struct Mode {
     pub listing: bool,
     pub limited: bool,
 }
 
 // Whether the set may not stand on a processor, and how many conflicts are listed then.
-#[derive(Drop)]
+#[derive(Clone, Copy)]
 pub struct Tested {
     pub bad: bool,
     pub count: usize,

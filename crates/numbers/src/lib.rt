@@ -1,4 +1,6 @@
 // A number of 32 bits as one of 64, and the lower of two numbers.
+#![tactic(auto)]
+
 ghost use Rattle.std.specs.Prelude.{◌≡◌, ◌<◌, min};
 
 // A number of 32 bits as one of 64: its bound is known where it is used.

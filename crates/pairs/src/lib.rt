@@ -1,4 +1,6 @@
 // Pairs of tasks that can never stand on one processor, by the rules or because they are late together.
+#![tactic(auto)]
+
 ghost use Rattle.std.specs.Prelude.{◌≡◌, ◌≤◌, ◌<◌};
 ghost use Rattle.schedule.specs.Arrays.{InLimits};
 ghost use Rattle.pairs.specs.Pairs.{takes_both, nowhere, late_pair, apart, strangers_of};

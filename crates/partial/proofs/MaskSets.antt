@@ -1,6 +1,6 @@
 -- Masks that the tests of a partial placement use: a complement, what two sets share. Assumes nothing.
 use mathlib.Core.Path.{◌≡◌, refl, ap, ◌∙◌}
-use mathlib.Core.Bool.{Bool, true, false, not, ◌||◌, and_true}
+use mathlib.Core.Bool.{Bool, true, false, not, ◌||◌, and-true}
 use Prim.Native.Nat.{ℕ, zero, suc, ◌+◌, ◌-◌, ◌*◌, ◌/◌, ◌%◌, ◌^◌, ◌≤◌, ◌<◌}
 use native.Mathlib.Nat.{lt_of_le_of_lt, lt_of_lt_of_le, mod-eq_of_lt}
 use native.Mathlib.Omega.{arith}
@@ -40,7 +40,7 @@ neither_mask n all a b few e small =
     ext 32 (lt_of_le_of_lt (and_le_l all (2 ^ 32 - 1 - bit_or a b)) (rw e (lt_of_lt_of_le (mask_lt n (λ j. true)) (pow_mono few))))
     (lt_of_lt_of_le (mask_lt n (λ j. not (has b j || has a j))) (pow_mono few))
     (λ k l. has_and all (2 ^ 32 - 1 - bit_or a b) k
-    ∙ rw (e, has_not 32 (bit_or a b) k small l, has_mask n (λ j. true) k, and_true (ltb k n), has_or a b k, has_mask n (λ j. not (has b j || has a j)) k) refl)
+    ∙ rw (e, has_not 32 (bit_or a b) k small l, has_mask n (λ j. true) k, and-true (ltb k n), has_or a b k, has_mask n (λ j. not (has b j || has a j)) k) refl)
 
 -- as the code tests it
 pub meets_if : (a b : ℕ) → (bit_and a b ≡ 0 → ⊥) → meets a b ≡ true

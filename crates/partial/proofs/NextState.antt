@@ -1,7 +1,7 @@
 -- The state with one task more fits the table, and other laws of states. Assumes nothing.
 use mathlib.Core.Path.{◌≡◌, refl, sym, subst, fun_ext, ◌∙◌}
 use mathlib.Core.Logic.{◌≢◌, ◌⊎◌, inl, inr}
-use mathlib.Core.Bool.{Bool, cond, true, false, ◌&&◌, ◌||◌, and_false, and_true}
+use mathlib.Core.Bool.{Bool, cond, true, false, ◌&&◌, ◌||◌, and-false, and-true}
 use mathlib.Core.List.{List}
 use Prim.Native.Nat.{ℕ, ◌+◌, ◌-◌, ◌*◌, ◌/◌, ◌≤◌, ◌<◌}
 use native.Mathlib.Omega.{arith}
@@ -33,8 +33,8 @@ standing_insert sets k p low = fun_ext (λ i. fun_ext (λ r. go i r (ℕ_discret
     put = insert_of (get_or sets p 0) k
 
     go : (i r : ℕ) → Dec (r ≡ p) → has (get_or (set sets p put) r 0) i ≡ (eqb i k && eqb r p || has (get_or sets r 0) i)
-    go i r (yes e) = rw (e, get_or-set_same sets p put 0 low, has_insert (get_or sets p 0) k i, eq-eqb p p refl, and_true (eqb i k)) refl
-    go i r (no e) = rw (get_or-set_other sets p r put 0 e, ne_eqb r p e, and_false (eqb i k)) refl
+    go i r (yes e) = rw (e, get_or-set_same sets p put 0 low, has_insert (get_or sets p 0) k i, eq-eqb p p refl, and-true (eqb i k)) refl
+    go i r (no e) = rw (get_or-set_other sets p r put 0 e, ne_eqb r p e, and-false (eqb i k)) refl
 
 -- of what each of m processors has left, x is taken at p
 left_less : (room : List ℕ) (m p x : ℕ) (used with-x limit : ℕ → ℕ) → p < length room → x ≤ get_or room p 0 → with-x p ≡ used p + x → ((r : ℕ) → r ≢ p → with-x r ≡ used r)

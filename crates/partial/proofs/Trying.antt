@@ -1,6 +1,6 @@
 -- The trial of a task on a processor, as the code comes to it. Assumes nothing.
 use mathlib.Core.Path.{◌≡◌, refl}
-use mathlib.Core.Bool.{true, false, and_false}
+use mathlib.Core.Bool.{true, false, and-false}
 use mathlib.Core.List.{List}
 use Prim.Native.Nat.{ℕ}
 use lib.Dec.{leb}
@@ -19,7 +19,7 @@ module _ (rows links : List (List ℕ)) (sizes : Sizes) (site : Site) (k p : ℕ
   module _ {others : ℕ} (o : others ≡ neither sizes.tasks site.left site.on) where
     pub trial_parted : meets (get_or (partner_row rows) k 0) others ≡ true → record { allowed = false; added = 0 } ≡ trial_of rows links sizes site k p
     unfolding trial_of
-    trial_parted e = rw (← o, e, and_false) refl
+    trial_parted e = rw (← o, e, and-false) refl
 
     pub trial_made : {added : ℕ} → suits rows site k p ≡ true → meets (get_or (partner_row rows) k 0) others ≡ false → added ≡ between links sizes.messages k others
         → record { allowed = leb added site.traffic; added = added } ≡ trial_of rows links sizes site k p

@@ -1,4 +1,6 @@
 // A partial placement: the empty one, which rules one task more on a processor would break, and the state with it there.
+#![tactic(auto)]
+
 ghost use Rattle.std.specs.Prelude.{◌≡◌, ◌<◌, ◌≤◌, T};
 ghost use Rattle.mask.specs.Mask.{has};
 ghost use Rattle.table.specs.declared.Table.{Table};
@@ -19,7 +21,7 @@ use rows::{
 use table::Table;
 
 // How many there are of each.
-#[derive(Drop)]
+#[derive(Clone, Copy)]
 pub struct Sizes {
     pub tasks: usize,
     pub processors: usize,
@@ -28,7 +30,7 @@ pub struct Sizes {
 
 // The tasks on each processor, the open tasks, those of them that may still stand on each processor, and what is left of each processor's
 // memory and load and of the network.
-#[derive(Drop)]
+#[derive(Clone, Copy)]
 pub struct State {
     pub on: [u32; 8],
     pub left: u32,
@@ -39,7 +41,7 @@ pub struct State {
 }
 
 // A processor as a task finds it: the tasks on it, the open tasks, and what is left of its memory and load and of the network.
-#[derive(Drop)]
+#[derive(Clone, Copy)]
 pub struct Site {
     pub on: u32,
     pub left: u32,
@@ -136,7 +138,7 @@ fn between(messages: &Messages, count: usize, k: usize, others: u32) -> u64
 }
 
 // Whether the rules allow the task, and what it then adds to the network.
-#[derive(Drop)]
+#[derive(Clone, Copy)]
 struct Trial {
     allowed: bool,
     added: u64,
@@ -193,7 +195,7 @@ pub fn allows<'a>(
 }
 
 // Whether the rules allow the task, and the state with it; the state as it was where they do not.
-#[derive(Drop)]
+#[derive(Clone, Copy)]
 pub struct Stepping {
     pub allowed: bool,
     pub next: State,

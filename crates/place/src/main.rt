@@ -1,4 +1,6 @@
 // Reads a table file on standard input and prints the listing of what the search answers.
+#![tactic(auto)]
+
 fn main() {
     let mut file = [0u8; 8192];
     let n = io::read_full(0, &mut file);

@@ -1,4 +1,6 @@
 // What other languages call. A refusal comes back in one number with its place: see `refused_as` in specs/.
+#![tactic(auto)]
+
 ghost use Rattle.std.specs.Prelude.{◌≡◌, ◌≤◌, length};
 ghost use Rattle.layout.specs.Format.{longest};
 ghost use Rattle.table.specs.Table.{read_of};

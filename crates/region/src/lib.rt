@@ -1,1 +1,2 @@
 // What the search knows of a region of placements: definitions and laws, no function.
+#![tactic(auto)]

@@ -1,4 +1,6 @@
 // The lines of a search answer, from its bytes in the buffer.
+#![tactic(auto)]
+
 ghost use Rattle.std.specs.Prelude.{◌≡◌, ◌+◌, ◌*◌, ◌≤◌, length};
 ghost use Rattle.table.specs.Sound.{Sound};
 ghost use Rattle.rules.specs.Placement.{placed};

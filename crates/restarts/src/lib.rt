@@ -1,4 +1,6 @@
 // The search of a region, in its two ways: whether it has a placement without a late set; and which conflicts rule out all of its placements.
+#![tactic(auto)]
+
 ghost use Rattle.std.specs.Prelude.{◌≡◌, true};
 ghost use Rattle.schedule.specs.Periodic.{LateSet};
 ghost use Rattle.timing.specs.Timing.{tasks_in};
@@ -20,14 +22,14 @@ use rows::{Messages, Rows};
 use schedule::Timing;
 
 // Whether a region has a placement without a late set, and the tasks on each processor in it.
-#[derive(Drop)]
+#[derive(Clone, Copy)]
 pub struct Decided {
     pub found: bool,
     pub on: [u32; 8],
 }
 
 // Whether the list of conflicts is cut, and how many it has.
-#[derive(Drop)]
+#[derive(Clone, Copy)]
 pub struct Listed {
     pub cut: bool,
     pub count: usize,

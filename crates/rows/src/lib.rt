@@ -1,5 +1,7 @@
 // What is lent to the search of a table, worked out once, so that it need not divide or go through the groups again:
 // rows of numbers, a place for each task or message.
+#![tactic(auto)]
+
 ghost use Rattle.std.specs.Prelude.{◌≡◌, ◌*◌, ◌/◌, ◌≤◌, ◌<◌, ltb, length, get_or};
 ghost use Rattle.finite.specs.Finite.{only};
 ghost use Rattle.table.specs.Sound.{Sound, SoundGroups};

@@ -1,9 +1,11 @@
 // The rules of a placement, whole or partial; and a placement as bytes, the processor of each task, and as the set of tasks on each processor.
+#![tactic(auto)]
+
 ghost use Rattle.std.specs.Prelude.{◌≡◌, ◌<◌, ◌≤◌};
 ghost use Rattle.rules.specs.Sets.{sets_of, Placeable, processor_of, processors_of};
 
 // The rules of document 01, in its order.
-#[derive(Drop)]
+#[derive(Clone, Copy)]
 pub enum Rule {
     Residence,
     CoResidence,
@@ -15,7 +17,7 @@ pub enum Rule {
 }
 
 // No rule is broken, or the first that is, with the lowest number concerned.
-#[derive(Drop)]
+#[derive(Clone, Copy)]
 pub enum Check {
     Kept,
     Broken(Rule, usize),

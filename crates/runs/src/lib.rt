@@ -1,4 +1,6 @@
 // The runs of a decision: what is kept of the heuristics for a replay, and how many steps each run may take. No answer rests on them.
+#![tactic(auto)]
+
 ghost use Rattle.std.specs.Prelude.{◌≡◌, ◌≤◌};
 ghost use Rattle.runs.specs.Runs.{kept_of, brought_back_of, is_weighted, share_of, run_of};
 

@@ -1,4 +1,6 @@
 // The response and the margin of a task, and whether a set of tasks is late. The tasks are lent as five rows of numbers, a place for each task, and a set is a mask.
+#![tactic(auto)]
+
 ghost use Rattle.std.specs.Prelude.{◌≡◌, ◌*◌, ◌<◌, ◌≤◌, pos, ◌-ℤ◌, get_or};
 ghost use Rattle.std.specs.Int.Signed.{mag};
 ghost use Rattle.mask.specs.Mask.{has};
@@ -23,7 +25,7 @@ pub const PRIORITY: usize = 3;
 pub const HIGHER: usize = 4;
 
 // Deadline minus worst response, where that is at most the period; else it is beyond.
-#[derive(Drop)]
+#[derive(Clone, Copy)]
 pub enum Margin {
     Known(i32),
     Beyond,

@@ -1,4 +1,6 @@
 // The search: the first placement in order of task then processor, the conflicts before it, and the mark.
+#![tactic(auto)]
+
 ghost use Rattle.std.specs.Prelude.{◌≡◌, ◌++◌, ◌+◌, ◌≤◌, length, drop};
 ghost use Rattle.table.specs.Sound.{Sound};
 ghost use Rattle.goal.specs.Goal.{head_of};
@@ -9,7 +11,7 @@ use table::{Outcome, Table};
 use verdict::Cause;
 
 // What the search answers: a refusal with its place, or how many bytes of the buffer are written.
-#[derive(Drop)]
+#[derive(Clone, Copy)]
 pub enum Answer {
     Refused(Cause, usize),
     Written(usize),

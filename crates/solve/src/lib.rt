@@ -1,4 +1,6 @@
 // The search on a table: its rows, and those that guide the search, are made once; then the first placement, or the conflicts of all.
+#![tactic(auto)]
+
 ghost use Rattle.std.specs.Prelude.{◌≤◌, length};
 ghost use Rattle.table.specs.Sound.{Sound};
 ghost use Rattle.partial.specs.Start.{Started};
@@ -16,7 +18,7 @@ use schedule::Timing;
 use table::Table;
 
 // Whether there is a placement, the sets of the first, and what is listed.
-#[derive(Drop)]
+#[derive(Clone, Copy)]
 pub struct Solved {
     pub found: bool,
     pub on: [u32; 8],

@@ -1,5 +1,7 @@
 // The rows that guide the search: how large each task is, the tasks in that order, and how hard each is to place.
 // No answer rests on these numbers, only how long the search takes.
+#![tactic(auto)]
+
 ghost use Rattle.std.specs.Prelude.{◌≡◌, ◌≤◌, ◌<◌, ltb};
 ghost use Rattle.finite.specs.Finite.{only};
 ghost use Rattle.schedule.specs.Arrays.{InLimits};

@@ -1,5 +1,7 @@
 // The weights of the weight bound adapt by a subgradient method: a task that the best packings leave out gets heavier, one that several of them take gets
 // lighter. The bound is right for any weights, so no answer rests on these numbers.
+#![tactic(auto)]
+
 ghost use Rattle.std.specs.Prelude.{◌≡◌, ◌*◌, ◌≤◌, ◌<◌, T};
 ghost use Rattle.mask.specs.Mask.{below};
 ghost use Rattle.subgradient.specs.Subgradient.{AtMost, counted_of, counts_of, direction_from, direction_of, distance, norm_of, total_of, stride_of, limited, moved_weight, moved_of, off_scale, scaled_of, rescaled_of, adapt_of, heaviest};
@@ -7,7 +9,7 @@ ghost use Rattle.subgradient.specs.Subgradient.{AtMost, counted_of, counts_of, d
 use numbers::{lower, wide};
 
 // The weights and the direction after a step; still where the direction is 256 for every open task, so that no weight moves.
-#[derive(Drop)]
+#[derive(Clone, Copy)]
 pub struct Adapted {
     pub weights: [u32; 24],
     pub direction: [u32; 24],

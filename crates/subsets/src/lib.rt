@@ -1,4 +1,6 @@
 // Sets of tasks that could stand on a processor in a region, each made from a smaller one by its next task.
+#![tactic(auto)]
+
 ghost use Rattle.std.specs.Prelude.{◌≡◌, ◌≤◌, ◌<◌};
 ghost use Rattle.finite.specs.Finite.{only};
 ghost use Rattle.mask.specs.Mask.{has};
@@ -10,7 +12,7 @@ use rows::{EXCLUSIONS, LOAD, MEMORY, RESIDENCE, Rows};
 
 // A set of tasks, and the task that may join it next, which is beyond them; the processors on which the set could stand in the region; and what its
 // open tasks take of memory and load.
-#[derive(Drop)]
+#[derive(Clone, Copy)]
 pub struct Subset {
     pub set: u32,
     pub next: usize,

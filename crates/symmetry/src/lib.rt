@@ -1,4 +1,6 @@
 // An earlier processor that can stand in for another: below a state both allow the same, so only one of them need be searched.
+#![tactic(auto)]
+
 ghost use Rattle.std.specs.Prelude.{◌≡◌, ℕ, ◌<◌, T, leb, get_or};
 ghost use Rattle.mask.specs.Mask.{below, sum_over};
 ghost use Rattle.table.specs.declared.Table.{Table};

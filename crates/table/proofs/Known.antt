@@ -20,11 +20,11 @@ before_place {x = x} r c l = place_agree r.before x c (λ e m. r.agree e (omega 
 
 module _ {s : List ℕ} {x : Progress} where
   pub limit_known : {j : ℕ} → Stands s x Processor j → (1 ≤ limit s (place x Processor j)) × (limit s (place x Processor j) ≤ 1000)
-  limit_known {j} r = passed.limit_range s (place x Processor j) r.accepted.in-range
+  limit_known {j} r = passed.limit_range s (place x Processor j) r.accepted.in_range
 
   module _ {j : ℕ} (r : Stands s x Task j) where
     pub task_known : passed.TaskRange (execution_time s (place x Task j)) (deadline s (place x Task j)) (period s (place x Task j))
-    task_known = passed.task_range s (place x Task j) r.accepted.in-range
+    task_known = passed.task_range s (place x Task j) r.accepted.in_range
 
     pub residence_known : (0 < residence s (place x Task j)) × (residence s (place x Task j) < 2 ^ count x Processor)
     unfolding not_in_file
@@ -46,7 +46,7 @@ module _ {s : List ℕ} {x : Progress} where
 
   module _ {j : ℕ} (r : Stands s x Message j) where
     pub amount_known : (1 ≤ amount s (place x Message j)) × (amount s (place x Message j) ≤ 1000000)
-    amount_known = passed.amount_range s (place x Message j) r.accepted.in-range
+    amount_known = passed.amount_range s (place x Message j) r.accepted.in_range
 
     pub pair_known : (sender s (place x Message j) < count x Task) × (receiver s (place x Message j) < count x Task) × (sender s (place x Message j) ≢ receiver s (place x Message j))
     unfolding not_in_file

@@ -48,7 +48,7 @@ module _ {s : List ℕ} {at : ℕ} {x : Progress} (r : Reached s at x) where
   hyperperiod_bounds : {k : Kind} → Accepted s at x k → Versus k Task → (1 ≤ hyperperiod_with s at x k) × (hyperperiod_with s at x k ≤ 1000000000)
   hyperperiod_bounds a (same e) =
       let b = subst (Accepted s at x) e a in
-      let t = task_range s at b.in-range in
+      let t = task_range s at b.in_range in
       rw e (lcm_pos x.hyperperiod (period s at) r.least (omega arith), hyperperiod_small s at x b.hyperperiod_small)
   hyperperiod_bounds a (other d) = rw (ne_eqb _ _ d) (r.least, r.most)
 

@@ -156,9 +156,9 @@ module _ {t : Table} (h : Sound t) where
       record {
         marked = mark_kind (encode t) (place (whole t) k j) k (stands_mark r);
         whole = stands_whole r (values_fit h k j);
-        in_order_lem = o;
+        in_order = o;
         room = omega (arith, count_here t k j n, few k);
-        in_range_lem = c.0;
+        in_range = c.0;
         in_file = c.1;
         priority_new = c.2;
         periods_equal = c.3;

@@ -1,4 +1,6 @@
 // The table file: read whole, or refused with the first cause and its place.
+#![tactic(auto)]
+
 ghost use Rattle.std.specs.Prelude.{◌≡◌, ◌+◌, ◌≤◌, ◌<◌, ltb, length};
 ghost use Rattle.finite.specs.Finite.{only};
 ghost use Rattle.wire.specs.Wire.{number};
@@ -13,27 +15,27 @@ use layout::{Kind, Progress};
 use verdict::{Cause, Verdict};
 
 // Whether a file can be read.
-#[derive(Drop)]
+#[derive(Clone, Copy)]
 pub enum Outcome {
     Readable,
     Refused(Cause, usize),
 }
 
 // On a refusal no record counts.
-#[derive(Drop)]
+#[derive(Clone, Copy)]
 pub struct Scanned {
     pub outcome: Outcome,
     pub progress: Progress,
 }
 
-#[derive(Drop)]
+#[derive(Clone, Copy)]
 pub struct Processors {
     pub count: usize,
     pub memory: [u32; 8],
     pub limit: [u32; 8],
 }
 
-#[derive(Drop)]
+#[derive(Clone, Copy)]
 pub struct Tasks {
     pub count: usize,
     pub c: [u32; 24],
@@ -44,13 +46,13 @@ pub struct Tasks {
     pub residence: [u32; 24],
 }
 
-#[derive(Drop)]
+#[derive(Clone, Copy)]
 pub struct Groups {
     pub count: usize,
     pub mask: [u32; 16],
 }
 
-#[derive(Drop)]
+#[derive(Clone, Copy)]
 pub struct Messages {
     pub count: usize,
     pub sender: [u32; 64],
@@ -59,7 +61,7 @@ pub struct Messages {
 }
 
 // The numbers of a file by kind; places beyond a count hold 0.
-#[derive(Drop)]
+#[derive(Clone, Copy)]
 pub struct Table {
     pub capacity: u32,
     pub processors: Processors,
@@ -71,14 +73,14 @@ pub struct Table {
 }
 
 // On a refusal the table is empty.
-#[derive(Drop)]
+#[derive(Clone, Copy)]
 pub struct Reading {
     pub outcome: Outcome,
     pub table: Table,
 }
 
 // The bytes of a number.
-#[derive(Drop)]
+#[derive(Clone, Copy)]
 pub enum Width {
     One,
     Two,

@@ -1,4 +1,6 @@
 // The judgement of a placement, task by task, in the caller's buffer: the number, the number concerned, and the response and the margin of each task.
+#![tactic(auto)]
+
 ghost use Rattle.std.specs.Prelude.{◌≡◌, ◌++◌, map, ◌+◌, ◌*◌, ◌≤◌, ◌<◌, length, take, drop};
 ghost use Rattle.std.proofs.lemmas.List.Edits.{sets};
 ghost use Rattle.std.specs.Int.Signed.{mag};
@@ -13,7 +15,7 @@ use table::{Outcome, Table};
 use verdict::Cause;
 
 // What is answered: a refusal with its place, or how many numbers of the buffer are written.
-#[derive(Drop)]
+#[derive(Clone, Copy)]
 pub enum Answer {
     Refused(Cause, usize),
     Written(usize),

@@ -1,4 +1,6 @@
 // Text in a buffer, piece after piece.
+#![tactic(auto)]
+
 ghost use Rattle.std.specs.Prelude.{◌+◌, ◌≤◌, ◌<◌, length};
 ghost use Rattle.wire.specs.Wire.{Put};
 ghost use Rattle.text.specs.Text.{digits, decimal, signed};

@@ -1,4 +1,6 @@
 // The numbers of a table's tasks as the tick run takes them.
+#![tactic(auto)]
+
 ghost use Rattle.std.specs.Prelude.{◌≡◌, ◌<◌, ◌≤◌};
 ghost use Rattle.table.specs.Sound.{Sound};
 ghost use Rattle.schedule.specs.Arrays.{higher_than, higher_of};

@@ -14,9 +14,9 @@ use Rattle.layout.specs.Format.{kind_at}
 pub record Accepted (s : List ℕ) (at : ℕ) (x : Progress) (k : Kind) : Type 0 where
   pub marked : kind_at s at ≡ Known k
   pub whole : at + size k ≤ length s
-  pub in_order_lem : x.next ≤ (row k).order
+  pub in_order : x.next ≤ (row k).order
   pub room : count x k < (row k).most
-  pub in_range_lem : out_of_range s at k ≡ false
+  pub in_range : out_of_range s at k ≡ false
   pub in_file : not_in_file s at x k ≡ false
   pub priority_new : priority_used s at x k ≡ false
   pub periods_equal : periods_differ s at x k ≡ false

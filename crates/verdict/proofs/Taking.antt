@@ -29,7 +29,7 @@ taking {s} {at} {x} {k} a =
       le-ltb (length s) (at + size k) a.whole,
       le-ltb (row k).order x.next a.in_order,
       lt-leb (row k).most (count x k) a.room,
-      a.in-range,
+      a.in_range,
       a.in_file,
       a.priority_new,
       a.periods_equal,

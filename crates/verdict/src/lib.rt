@@ -1,4 +1,6 @@
 // One record of a table file: whether it can be taken after the records before it, or the first cause against it.
+#![tactic(auto)]
+
 ghost use Rattle.std.specs.Prelude.{◌≡◌, ◌+◌, ◌≤◌, ◌<◌, eqb, length};
 ghost use Rattle.finite.specs.Finite.{some_below};
 ghost use Rattle.wire.specs.Wire.{number};
@@ -9,7 +11,7 @@ ghost use Rattle.verdict.specs.Reached.{Reached, group_verdict, pair_verdict};
 use layout::{Kind, Mark, Progress};
 
 // The causes of a refusal, in document 01's order; the last four concern what is asked of a file that can be read.
-#[derive(Drop)]
+#[derive(Clone, Copy)]
 pub enum Cause {
     Cut,
     UnknownMark,
@@ -29,7 +31,7 @@ pub enum Cause {
 }
 
 // A record is taken, with its kind and the hyperperiod from then on, or refused for the first cause against it.
-#[derive(Drop)]
+#[derive(Clone, Copy)]
 pub enum Verdict {
     Taken(Kind, u64),
     Refused(Cause),

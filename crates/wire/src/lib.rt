@@ -1,4 +1,6 @@
 // Little-endian fields and two-byte marks in byte slices: read, compared and written.
+#![tactic(auto)]
+
 ghost use Rattle.std.specs.Prelude.{◌≡◌, ◌++◌, ◌+◌, ◌<◌, ◌≤◌, length, drop};
 ghost use Rattle.wire.specs.Wire.{number, mark_at, mark_bytes, record_bytes};
 

@@ -1,0 +1,14 @@
+-- `covering` meets its contract: no conflict of the blocks so far is a subset.
+use mathlib.Core.Path.{sym}
+use Prim.Native.Nat.{◌-◌}
+use native.Mathlib.Omega.{arith}
+use Rattle.finite.proofs.Search.{Searched, first_upto, search_start, part_found, part_missed, part_last}
+use Rattle.mask.specs.Mask.{within}
+use Rattle.answer.specs.Answer.{mask_at}
+use Rattle.answer.proofs.covering.Given as goal
+
+abbrev pub invariant-loop-j : goal.invariant-loop-j
+invariant-loop-j l = Searched l.count (λ k. within (mask_at l.list k) l.set) l.j
+
+abbrev pub decreases-loop-j : goal.decreases-loop-j
+decreases-loop-j l = l.count - l.j

@@ -1,0 +1,16 @@
+-- The processors are asked one by one.
+use mathlib.Core.Logic.{⊎_elim}
+use mathlib.Core.Path.{refl}
+use Prim.Native.Nat.{◌-◌}
+use native.Mathlib.Omega.{arith}
+use borrow.Author.Rules.{rules}
+use lib.ListN.{get_or}
+use Rattle.mask.specs.Mask.{has}
+use Rattle.finite.proofs.SumLoop.{Summing, summing_start, summing_in, summing_out, summing_end}
+use Rattle.branching.proofs.choices.Given as goal
+
+abbrev pub invariant-loop-p : goal.invariant-loop-p
+invariant-loop-p l = Summing l.processors (λ r. has (get_or l.may r 0) l.k) (λ r. 1) 1 l.p l.found
+
+abbrev pub decreases-loop-p : goal.decreases-loop-p
+decreases-loop-p l = l.processors - l.p

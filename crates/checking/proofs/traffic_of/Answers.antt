@@ -1,0 +1,38 @@
+-- `traffic_of` meets its contract. Assumes nothing.
+use mathlib.Core.Path.{sym, ◌∙◌}
+use mathlib.Core.Logic.{⊎_elim}
+use Prim.Native.Nat.{◌-◌}
+use native.Mathlib.Omega.{arith}
+use borrow.Author.Rules.{rules}
+use Rattle.rules.specs.Rules.{crosses, amount_of, traffic}
+use Rattle.rules.specs.Sets.{standing}
+use Rattle.finite.proofs.SumLoop.{Summing, summing_start, summing_in, summing_out, summing_end}
+use Rattle.checking.proofs.traffic_of.Goals as goal
+
+pub loop-j-init : goal.loop-j-init
+unfolding traffic
+loop-j-init c = summing_start
+
+pub crosses-requires : goal.crosses-requires
+unfolding traffic
+crosses-requires c = search rules
+
+pub amount_of-sum-requires : goal.amount_of-sum-requires
+unfolding traffic
+amount_of-sum-requires c = search rules
+
+pub overflow_add-sum : goal.overflow_add-sum
+unfolding traffic
+overflow_add-sum c = record { fits = omega (arith, c.loop-j.invariant.small, c.requires.messages.most, c.amount_of-sum.ensures) }
+
+pub loop-j-preserved : goal.loop-j-preserved
+unfolding traffic
+loop-j-preserved c =
+    ⊎_elim
+    (λ w. rw w.sum-is (summing_in c.loop-j.invariant c.loop-j-test.true (sym c.crosses.ensures ∙ w.if-crosses.true) w.amount_of-sum.ensures.0 w.amount_of-sum.ensures.1))
+    (λ w. rw w.sum-is (summing_out c.loop-j.invariant c.loop-j-test.true (sym c.crosses.ensures ∙ w.if-crosses.false)))
+    c.if-crosses.branch-raw
+
+pub returns : goal.returns
+unfolding traffic
+returns c = summing_end c.loop-j.invariant c.loop-j-test.false

@@ -1,0 +1,25 @@
+-- `late_as_number` meets its contract. Assumes nothing.
+use mathlib.Core.Path.{sym, ◌∙◌}
+use native.Mathlib.Omega.{arith}
+use Rattle.schedule.proofs.TasksOfArrays.{with_set}
+use Rattle.conflict.proofs.Counting.{late_is}
+use Rattle.conflict.proofs.late_as_number.Goals as goal
+
+pub only_below-requires : goal.only_below-requires
+only_below-requires c = omega (arith, c.requires.few)
+
+pub is_late-requires : goal.is_late-requires
+is_late-requires c = with_set c.requires _ (rw (sym c.only_below.ensures ∙ c.if-only_below.true) tt)
+
+pub returns-then-is_late : goal.returns-then-is_late
+returns-then-is_late c =
+    let e = sym c.only_below.ensures ∙ c.if-only_below.true in
+    (simp (e, sym (late_is (with_set c.requires _ (rw e tt)) _ c.is_late.ensures) ∙ c.if-is_late.true), omega arith)
+
+pub returns-else-is_late : goal.returns-else-is_late
+returns-else-is_late c =
+    let e = sym c.only_below.ensures ∙ c.if-only_below.true in
+    (simp (e, sym (late_is (with_set c.requires _ (rw e tt)) _ c.is_late.ensures) ∙ c.if-is_late.false), omega arith)
+
+pub returns-else-only_below : goal.returns-else-only_below
+returns-else-only_below c = (simp (sym c.only_below.ensures ∙ c.if-only_below.false), omega arith)

@@ -1,0 +1,17 @@
+-- `conflict_line` meets its contract: behind the word stand the members below k.
+use mathlib.Core.Path.{◌≡◌, refl, ◌∙◌}
+use Prim.Native.Nat.{◌+◌, ◌-◌, ◌*◌, ◌≤◌}
+use native.Mathlib.Omega.{arith}
+use borrow.Author.Rules.{rules}
+use lib.ListN.{length}
+use Rattle.wire.specs.Wire.{Put, pieces}
+use Rattle.wire.proofs.Put.{put_then}
+use Rattle.text.proofs.Laws.{put_none, put_more}
+use Rattle.lines.specs.Lines.{member}
+use Rattle.lines.proofs.conflict_line.Given as goal
+
+abbrev pub invariant-loop-k : goal.invariant-loop-k
+invariant-loop-k l = (l.k ≤ l.n) × (l.end ≤ l.initial.end + 3 * l.k) × (length l.text ≡ length l.initial.text) × Put l.initial.text l.initial.end (pieces l.k (member l.mask)) l.text l.end
+
+abbrev pub decreases-loop-k : goal.decreases-loop-k
+decreases-loop-k l = l.n - l.k

@@ -1,0 +1,20 @@
+-- `start` meets its contract. Assumes nothing.
+use mathlib.Core.Path.{◌≡◌, refl, ap}
+use Prim.Native.Nat.{ℕ, ◌-◌, ◌*◌, ◌/◌, ◌≤◌}
+use native.Mathlib.Nat.{mul-le-mul}
+use native.Mathlib.Omega.{arith}
+use borrow.Author.Rules.{rules}
+use lib.ListN.{get_or}
+use Rattle.table.specs.Table.{column}
+use Rattle.partial.specs.Start.{start_of}
+use Rattle.table.proofs.FilledUp.{column_start, column_next}
+use Rattle.partial.proofs.start.Given as goal
+
+abbrev pub invariant-loop-p : goal.invariant-loop-p
+invariant-loop-p l =
+    (l.p ≤ l.t.processors.count)
+    × (l.memory ≡ column 8 l.p (λ j. get_or l.t.processors.memory j 0))
+    × (l.load ≡ column 8 l.p (λ j. get_or l.t.processors.limit j 0 * l.t.hyperperiod / 1000))
+
+abbrev pub decreases-loop-p : goal.decreases-loop-p
+decreases-loop-p l = l.m - l.p

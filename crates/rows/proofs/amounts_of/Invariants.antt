@@ -1,0 +1,13 @@
+-- `amounts_of` meets its contract. Assumes nothing.
+use Prim.Native.Nat.{◌-◌}
+use borrow.Author.Rules.{rules}
+use Rattle.table.proofs.Filling.{Filled, fill_start, fill_put, fill_end}
+use Rattle.rules.specs.Rules.{amount_of}
+use Rattle.rows.specs.Rows.{amounts_of}
+use Rattle.rows.proofs.amounts_of.Given as goal
+
+abbrev pub invariant-loop-j : goal.invariant-loop-j
+invariant-loop-j l = Filled 64 l.t.messages.count (amount_of l.t) l.j l.amounts
+
+abbrev pub decreases-loop-j : goal.decreases-loop-j
+decreases-loop-j l = 64 - l.j

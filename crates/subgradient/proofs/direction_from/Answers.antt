@@ -1,0 +1,10 @@
+-- By the test.
+use mathlib.Core.Path.{refl}
+use borrow.Author.Rules.{rules}
+use Rattle.subgradient.proofs.direction_from.Goals as goal
+
+pub returns-then-first : goal.returns-then-first
+returns-then-first c = rw c.if-first.true refl
+
+pub returns : goal.returns
+returns c = rw c.if-first.false refl

@@ -1,0 +1,30 @@
+-- `fill` meets its contract. Assumes nothing.
+use native.Mathlib.Omega.{arith}
+use borrow.Author.Rules.{rules}
+use Prim.Native.Nat.{◌-◌}
+use lib.ListN.{length}
+use Rattle.layout.specs.Format.{count}
+use Rattle.table.specs.Columns.{field_at}
+use Rattle.table.proofs.Filling.{Filled, fill_start, fill_put, fill_end}
+use Rattle.table.proofs.fill.Goals as goal
+
+pub loop-j-init : goal.loop-j-init
+loop-j-init c = fill_start _ _ _
+
+pub entry-requires : goal.entry-requires
+entry-requires c = c.requires
+
+pub bounds-out-j : goal.bounds-out-j
+bounds-out-j c = omega (arith, c.loop-j-test.true)
+
+pub loop-j-smaller : goal.loop-j-smaller
+loop-j-smaller c = omega (arith, c.loop-j.invariant.long, c.loop-j-test.true)
+
+pub loop-j-preserved : goal.loop-j-preserved
+loop-j-preserved c = fill_put c.loop-j.invariant (omega (arith, c.loop-j.invariant.long, c.loop-j-test.true)) c.entry.ensures
+
+pub shape_of-out : goal.shape_of-out
+shape_of-out c = c.loop-j.invariant.long
+
+pub returns : goal.returns
+returns c = fill_end c.loop-j.invariant (omega (arith, c.loop-j.invariant.long, c.loop-j-test.false))

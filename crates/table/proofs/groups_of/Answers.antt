@@ -1,0 +1,6 @@
+-- `groups_of` meets its contract. Assumes nothing.
+use borrow.Author.Rules.{rules}
+use Rattle.table.proofs.groups_of.Goals as goal
+
+pub returns : goal.returns
+returns c = simp (c.count_of-n.ensures, c.fill.ensures)

@@ -1,0 +1,6 @@
+-- `processors_of` meets its contract. Assumes nothing.
+use borrow.Author.Rules.{rules}
+use Rattle.table.proofs.processors_of.Goals as goal
+
+pub returns : goal.returns
+returns c = simp (c.fill.ensures, c.fill-2.ensures)

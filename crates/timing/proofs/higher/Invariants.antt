@@ -1,0 +1,11 @@
+-- The loop has the masks of the tasks below i.
+use borrow.Author.Rules.{rules}
+use Prim.Native.Nat.{◌-◌}
+use Rattle.timing.proofs.HigherLoops.{Rows, rows_start, rows_next, rows_end}
+use Rattle.timing.proofs.higher.Given as goal
+
+abbrev pub invariant-loop-i : goal.invariant-loop-i
+invariant-loop-i l = Rows l.n l.priority l.rows l.i
+
+abbrev pub decreases-loop-i : goal.decreases-loop-i
+decreases-loop-i l = l.n - l.i

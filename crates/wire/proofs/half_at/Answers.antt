@@ -1,0 +1,8 @@
+-- `half_at` reads the number of two bytes as that of one and of those behind.
+use native.Mathlib.Omega.{arith}
+use borrow.Author.Rules.{rules}
+use Rattle.wire.proofs.Laws.{number_add}
+use Rattle.wire.proofs.half_at.Goals as goal
+
+pub returns : goal.returns
+returns c = let a = c.args in (omega (arith, number_add a.s.now a.at 1 1), omega arith)
