@@ -1,0 +1,21 @@
+-- `load_on` meets its contract: the load of the first k tasks that stand on p.
+use mathlib.Core.Path.{refl, ap, ◌∙◌}
+use mathlib.Core.Logic.{⊎_elim}
+use Prim.Native.Nat.{◌-◌, ◌*◌, ◌/◌, ◌<◌}
+use native.Mathlib.Omega.{arith}
+use borrow.Author.Rules.{rules}
+use borrow.Author.Tests.{lt-ltb, eq-eqb, ne_eqb}
+use lib.ListN.{length, get_or}
+use Rattle.table.proofs.Times.{work_in_period, some_period}
+use Rattle.load.specs.declared.Load.{Load}
+use Rattle.rules.specs.Placement.{placed}
+use Rattle.rules.specs.Rules.{load_on}
+use Rattle.load.proofs.Work.{work_le}
+use Rattle.finite.proofs.SumLoop.{Summing, summing_start, summing_in, summing_out, summing_end}
+use Rattle.report.proofs.load_on.Given as goal
+
+abbrev pub invariant-loop-k : goal.invariant-loop-k
+invariant-loop-k l = Summing l.table.tasks.count (λ j. placed l.placement j l.p) (λ j. get_or l.table.tasks.c j 0 * l.table.hyperperiod / get_or l.table.tasks.t j 0) 1000000000 l.k l.load.0
+
+abbrev pub decreases-loop-k : goal.decreases-loop-k
+decreases-loop-k l = length l.placement - l.k

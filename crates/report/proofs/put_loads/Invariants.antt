@@ -1,0 +1,18 @@
+-- `put_loads` meets its contract: the lines of the first p processors stand there.
+use mathlib.Core.Path.{◌≡◌, refl, subst, ◌∙◌}
+use Prim.Native.Nat.{ℕ, ◌+◌, ◌*◌, ◌-◌, ◌≤◌}
+use native.Mathlib.Omega.{arith}
+use borrow.Author.Rules.{rules}
+use lib.ListN.{length}
+use Rattle.rules.proofs.Bounds.{some_tick}
+use Rattle.wire.specs.Wire.{Put, pieces}
+use Rattle.text.proofs.Laws.{put_none, put_more}
+use Rattle.lines.specs.Lines.{load_line}
+use Rattle.report.specs.Report.{thousandths}
+use Rattle.report.proofs.put_loads.Given as goal
+
+abbrev pub invariant-loop-p : goal.invariant-loop-p
+invariant-loop-p l = (l.p ≤ l.table.processors.count) × (l.end ≤ l.at + 128 * l.p) × (length l.text ≡ length l.initial.text) × Put l.initial.text l.at (pieces l.p (λ j. load_line j (thousandths l.table l.placement j))) l.text l.end
+
+abbrev pub decreases-loop-p : goal.decreases-loop-p
+decreases-loop-p l = l.table.processors.count - l.p
