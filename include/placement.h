@@ -1,4 +1,4 @@
-/* The placement tool's functions for C. Link with libplacement.a (rt staticlib placement).
+/* The placement tool's functions for C. Link with libplacement.a (rt lib in crates/placement).
  *
  * Every buffer belongs to the caller. No function keeps a pointer, allocates, or reads beyond the length it is given. Only placement_search and
  * placement_judge_tasks write, each only into the buffer that it is lent for that; that buffer must not overlap the file or the placement.

@@ -24,9 +24,9 @@ pub fn root() -> &'static Path {
 
 /// The folder of the program: RATTLE_BIN names it, else it is the one in which it is built.
 pub fn folder() -> PathBuf {
-    let folder = env::var_os("RATTLE_BIN").map_or_else(|| root().join("target/bin"), PathBuf::from);
+    let folder = env::var_os("RATTLE_BIN").map_or_else(|| root().join("crates/place/out"), PathBuf::from);
     let program = folder.join("place");
-    assert!(program.is_file(), "{} is missing: `rt check place` builds it", program.display());
+    assert!(program.is_file(), "{} is missing: `rt run` in crates/place builds it", program.display());
     folder
 }
 

@@ -44,14 +44,15 @@ fn without_empty_end(text: &mut String) {
 fn copy_of_the_root(name: &str) -> PathBuf {
     let room = Path::new(env!("CARGO_TARGET_TMPDIR")).join(name);
     let _ = fs::remove_dir_all(&room);
-    fs::create_dir_all(room.join("target")).expect("a folder");
-    fs::create_dir_all(room.join("tools/target")).expect("a folder");
+    for folder in ["crates/place", "crates/placement", "tools/target"] {
+        fs::create_dir_all(room.join(folder)).expect("a folder");
+    }
     let library =
         std::env::var("RATTLE_STATICLIB").expect("RATTLE_STATICLIB names the folder of libplacement.a");
     let tools = Path::new(env!("CARGO_BIN_EXE_table")).parent().expect("its folder");
     let links = [
-        (folder(), "target/bin"),
-        (PathBuf::from(library), "target/staticlib"),
+        (folder(), "crates/place/out"),
+        (PathBuf::from(library), "crates/placement/out"),
         (tools.to_path_buf(), "tools/target/release"),
         (root().join("tables"), "tables"),
         (root().join("examples"), "examples"),

@@ -219,10 +219,13 @@ fn a_program_that_fails() {
 fn unbuilt(name: &str) -> (PathBuf, Command) {
     let room = room(name);
     fs::copy(root().join("place"), room.join("place")).expect("a copy");
+    for folder in ["crates/place", "tools"] {
+        fs::create_dir_all(room.join(folder)).expect("a folder");
+    }
     let copy = |from: &Path, to: &str| format!("mkdir -p {to} && cp {} {to}/", from.display());
-    write_program(room.join("bin/rt"), &copy(&folder().join("place"), "target/bin"));
+    write_program(room.join("bin/rt"), &copy(&folder().join("place"), "out"));
     let table = Path::new(env!("CARGO_BIN_EXE_table"));
-    write_program(room.join("bin/cargo"), &copy(table, "tools/target/release"));
+    write_program(room.join("bin/cargo"), &copy(table, "target/release"));
     for tool in
         ["cat", "cp", "dirname", "head", "mkdir", "mktemp", "mv", "readlink", "rm", "tail", "tr", "wc"]
     {
@@ -240,12 +243,12 @@ fn first_use() {
     let example = fs::read(root().join("tables/example.txt")).expect("a text");
     let (file, _) = encode(str::from_utf8(&example).expect("text")).expect("a sound text");
     let listing = printed(place(&[], &example));
-    let program = "place: first use: building the program with its proofs, which takes about ten minutes: \
-                   rt check place\n";
+    let program = "place: first use: building the program with its proofs, which takes about twenty minutes: \
+                   cd crates/place && rt run\n";
     let first = run(&mut command, &[&file]);
     assert_eq!((String::from_utf8_lossy(&first.said).as_ref(), first.status), (program, Some(0)));
     assert_eq!(String::from_utf8_lossy(&first.printed), listing);
-    assert!(!room.join("tools").exists());
+    assert!(!room.join("tools/target").exists());
     let second = run(&mut command, &[&example]);
     let said = String::from_utf8_lossy(&second.said).to_string();
     assert!(said.starts_with("place: first use: building the reader of text tables, which takes "), "{said}");
@@ -267,7 +270,7 @@ fn builders_that_fail_or_are_missing() {
     write_program(room.join("bin/rt"), "exit 0");
     let said = String::from_utf8(run(&mut command, &[b""]).said).expect("UTF-8");
     assert!(
-        said.ends_with("target/bin/place is missing, though the program with its proofs was built\n"),
+        said.ends_with("crates/place/out/place is missing, though the program with its proofs was built\n"),
         "{said}"
     );
     fs::remove_file(room.join("bin/rt")).expect("the builder");

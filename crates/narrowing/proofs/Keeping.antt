@@ -57,6 +57,7 @@ module _ {t : Table} {sizes : Sizes} {timing rows links : List (List ℕ)} (l : 
       stands_resides u = go (trial_of rows links sizes (site_of s p) k p).allowed (and_left (trial_of rows links sizes (site_of s p) k p).allowed _ u) trial
         where
           go : (b : Bool) → T b → TrialOf t s k p b (trial_of rows links sizes (site_of s p) k p).added → T (has (get_or t.tasks.residence k 0) p)
+          go false v w = elim v [ ]
           go true v w = residence_needed t l.rules.sound (standing s.on) f.keeps k p (f.open_task k waits).0 low w.keeps
 
       -- its set is late
@@ -74,6 +75,7 @@ module _ {t : Table} {sizes : Sizes} {timing rows links : List (List ℕ)} (l : 
               (late_says (tasks_in t) (valid_tasks h) (has (insert_of (get_or s.on p 0) k)) (constrained_tasks h))
             where
               go : (b : Bool) → T b → Says b (LateSet (tasks_in t) (has (insert_of (get_or s.on p 0) k))) → LateSet (tasks_in t) (has (insert_of (get_or s.on p 0) k))
+              go false v w = elim v [ ]
               go true v w = w
 
           there : (j : ℕ) → T (has (insert_of (get_or s.on p 0) k) j) → T (and_task (standing s.on) k p j p)

@@ -1,5 +1,4 @@
 -- `last_line` meets its contract, by whether the list is complete.
-use borrow.Author.Rules.{rules}
 use Rattle.report.proofs.last_line.Goals as goal
 
 pub returns-then-complete : goal.returns-then-complete

@@ -1,29 +1,17 @@
 -- `load_on` meets its contract: the load of the first k tasks that stand on p.
 use mathlib.Core.Path.{refl, ap, ◌∙◌}
 use mathlib.Core.Logic.{⊎_elim}
-use Prim.Native.Nat.{◌-◌, ◌*◌, ◌/◌, ◌<◌}
+use Prim.Native.Nat.{◌<◌}
 use native.Mathlib.Omega.{arith}
 use borrow.Author.Rules.{rules}
 use borrow.Author.Tests.{lt-ltb, eq-eqb, ne_eqb}
-use lib.ListN.{length, get_or}
+use lib.ListN.{get_or}
 use Rattle.table.proofs.Times.{work_in_period, some_period}
 use Rattle.load.specs.declared.Load.{Load}
-use Rattle.rules.specs.Placement.{placed}
 use Rattle.rules.specs.Rules.{load_on}
 use Rattle.load.proofs.Work.{work_le}
-use Rattle.finite.proofs.SumLoop.{Summing, summing_start, summing_in, summing_out, summing_end}
-use Rattle.report.proofs.load_on.Lts as lts
-use Rattle.report.proofs.load_on.Reads as reads
-use Rattle.report.proofs.load_on.Tie as tie
+use Rattle.finite.proofs.SumLoop.{summing_start, summing_in, summing_out, summing_end}
 use Rattle.report.proofs.load_on.Goals as goal
-
--- a task of the table, below 24
-module _ (c : lts.In-loop tie.the-claims reads.Pre reads.Post goal.the-invariant-loop-k goal.the-decreases-loop-k) where
-  of_table : c.loop-k.k < c.args.table.tasks.count
-  of_table = omega (arith, c.requires.1)
-
-  few : c.loop-k.k < 24
-  few = omega (arith, of_table, c.requires.0.tasks.most)
 
 pub loop-k-init : goal.loop-k-init
 unfolding load_on
@@ -31,45 +19,45 @@ loop-k-init c = summing_start
 
 pub overflow_cast-placement : goal.overflow_cast-placement
 unfolding load_on
-overflow_cast-placement c = record { fits = omega (arith, c.shared_slice_known-in-loop-k-1.given c.loop-k.k) }
+overflow_cast-placement c = search rules
 
 pub offset_bounds-tasks-k : goal.offset_bounds-tasks-k
 unfolding load_on
-offset_bounds-tasks-k c = record { fits = omega (arith, few c.before.before) }
+offset_bounds-tasks-k c = record { fits = omega (arith, c.requires.0.tasks.most) }
 
 pub bounds-tasks-k : goal.bounds-tasks-k
 unfolding load_on
-bounds-tasks-k c = few c.before.before
+bounds-tasks-k c = omega (arith, c.requires.0.tasks.most)
 
 pub offset_bounds-tasks-k-then-placement-k : goal.offset_bounds-tasks-k-then-placement-k
 unfolding load_on
-offset_bounds-tasks-k-then-placement-k c = record { fits = omega (arith, few c.before.before.before) }
+offset_bounds-tasks-k-then-placement-k c = record { fits = omega (arith, c.requires.0.tasks.most) }
 
 pub bounds-tasks-k-then-placement-k : goal.bounds-tasks-k-then-placement-k
 unfolding load_on
-bounds-tasks-k-then-placement-k c = few c.before.before.before
+bounds-tasks-k-then-placement-k c = omega (arith, c.requires.0.tasks.most)
 
 pub with_task-load-requires : goal.with_task-load-requires
 unfolding load_on
 with_task-load-requires c =
-    let l = c.before.before.before.before in
-    let k = l.before.loop-k.k in
-    let h = l.before.before.before.before.requires.0 in
-    (some_period h k (of_table l), work_in_period h k (of_table l), h.tasks.ticks k (of_table l), h.hyperperiod_most, omega (arith, l.before.loop-k.invariant.small, few l))
+    let k = c.loop-k.k in
+    let h = c.requires.0 in
+    let l : k < c.args.table.tasks.count = omega (arith, c.requires.1) in
+    (some_period h k l, work_in_period h k l, h.tasks.ticks k l, h.hyperperiod_most, omega (arith, c.loop-k.invariant.small, h.tasks.most))
 
 pub loop-k-preserved : goal.loop-k-preserved
 unfolding load_on
 loop-k-preserved c =
-    let l = c.before.before in
-    let h = l.before.before.before.before.requires.0 in
-    let t = l.before.before.before.before.args.table in
-    let k = l.before.loop-k.k in
+    let h = c.requires.0 in
+    let t = c.args.table in
+    let k = c.loop-k.k in
+    let l : k < t.tasks.count = omega (arith, c.requires.1) in
     ⊎_elim
     (λ w.
     rw (ap (λ (x : Load). x.0) w.load-is ∙ w.with_task-load.ensures)
-    (summing_in l.before.loop-k.invariant (of_table l) (rw (lt-ltb _ _ l.loop-k-test.true, eq-eqb _ _ w.if-placement-k.true) refl) refl
-    (omega (arith, work_le (get_or t.tasks.c k 0) (get_or t.tasks.t k 0) t.hyperperiod (work_in_period h k (of_table l)), h.hyperperiod_most))))
-    (λ w. rw w.load-is (summing_out l.before.loop-k.invariant (of_table l) (rw (lt-ltb _ _ l.loop-k-test.true, ne_eqb _ _ w.if-placement-k.false) refl)))
+    (summing_in c.loop-k.invariant l (rw (lt-ltb _ _ c.loop-k-test.true, eq-eqb _ _ w.if-placement-k.true) refl) refl
+    (omega (arith, work_le (get_or t.tasks.c k 0) (get_or t.tasks.t k 0) t.hyperperiod (work_in_period h k l), h.hyperperiod_most))))
+    (λ w. rw w.load-is (summing_out c.loop-k.invariant l (rw (lt-ltb _ _ c.loop-k-test.true, ne_eqb _ _ w.if-placement-k.false) refl)))
     c.if-placement-k.branch-raw
 
 pub returns : goal.returns

@@ -1,17 +1,8 @@
 -- `load_on` meets its contract: the load of the first k tasks that stand on p.
-use mathlib.Core.Path.{refl, ap, ◌∙◌}
-use mathlib.Core.Logic.{⊎_elim}
-use Prim.Native.Nat.{◌-◌, ◌*◌, ◌/◌, ◌<◌}
-use native.Mathlib.Omega.{arith}
-use borrow.Author.Rules.{rules}
-use borrow.Author.Tests.{lt-ltb, eq-eqb, ne_eqb}
+use Prim.Native.Nat.{◌-◌, ◌*◌, ◌/◌}
 use lib.ListN.{length, get_or}
-use Rattle.table.proofs.Times.{work_in_period, some_period}
-use Rattle.load.specs.declared.Load.{Load}
 use Rattle.rules.specs.Placement.{placed}
-use Rattle.rules.specs.Rules.{load_on}
-use Rattle.load.proofs.Work.{work_le}
-use Rattle.finite.proofs.SumLoop.{Summing, summing_start, summing_in, summing_out, summing_end}
+use Rattle.finite.proofs.SumLoop.{Summing}
 use Rattle.report.proofs.load_on.Given as goal
 
 abbrev pub invariant-loop-k : goal.invariant-loop-k

@@ -4,7 +4,6 @@ use mathlib.Core.Bool.{Bool}
 use mathlib.Core.List.{List}
 use Prim.Native.Nat.{ℕ, ◌+◌, ◌-◌, ◌/◌}
 use native.Mathlib.Omega.{arith}
-use borrow.Author.Rules.{rules}
 use lib.ListN.{length, take, drop, length-drop}
 use lib.Seq.{take_all}
 use Rattle.wire.specs.Wire.{mark_at, Put}
@@ -15,7 +14,7 @@ use Rattle.report.proofs.put_answer.Goals as goal
 
 pub returns : goal.returns
 unfolding answer_lines
-returns c.before = let a = c.args in
+returns c = let a = c.args in
     let n = a.table.tasks.count in
     let long : n + 2 - 2 ≡ n = omega arith in
     put_then

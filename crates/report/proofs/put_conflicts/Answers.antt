@@ -1,10 +1,6 @@
 -- `put_conflicts` meets its contract: the lines of the first j conflicts stand there.
 use mathlib.Core.Path.{◌≡◌, refl, ◌∙◌}
-use Prim.Native.Nat.{◌+◌, ◌*◌, ◌-◌, ◌≤◌}
 use native.Mathlib.Omega.{arith}
-use borrow.Author.Rules.{rules}
-use lib.ListN.{length}
-use Rattle.wire.specs.Wire.{Put, pieces}
 use Rattle.text.proofs.Laws.{put_none, put_more}
 use Rattle.answer.specs.Answer.{mask_at}
 use Rattle.lines.specs.Lines.{conflict_line}

@@ -1,13 +1,11 @@
 -- `put_head` meets its contract: `none` alone, or `found` and the lines of the placement behind it.
 use native.Mathlib.Omega.{arith}
-use borrow.Author.Rules.{rules}
-use borrow.Author.Tests.{not-true, not-false}
 use Rattle.wire.proofs.Put.{put_then}
 use Rattle.report.proofs.put_head.Goals as goal
 
 pub returns-then-not-found : goal.returns-then-not-found
 returns-then-not-found c =
-    (rw (not-true c.args.found c.if-not-found.true) c.put.ensures, omega (arith, c.put.ensures.ends))
+    (rw c.if-not-found.true c.put.ensures, omega (arith, c.put.ensures.ends))
 
 pub put_placement-requires : goal.put_placement-requires
 put_placement-requires c =
@@ -15,4 +13,4 @@ put_placement-requires c =
 
 pub returns : goal.returns
 returns c =
-    (rw (not-false c.args.found c.if-not-found.false) (put_then c.put-end.ensures c.put_placement.ensures.0), omega (arith, c.put-end.ensures.ends, c.put_placement.ensures.1))
+    (rw c.if-not-found.false (put_then c.put-end.ensures c.put_placement.ensures.0), omega (arith, c.put-end.ensures.ends, c.put_placement.ensures.1))

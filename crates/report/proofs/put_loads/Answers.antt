@@ -1,9 +1,7 @@
 -- `put_loads` meets its contract: the lines of the first p processors stand there.
 use mathlib.Core.Path.{◌≡◌, refl, subst, ◌∙◌}
-use Prim.Native.Nat.{ℕ, ◌+◌, ◌*◌, ◌-◌, ◌≤◌}
+use Prim.Native.Nat.{ℕ}
 use native.Mathlib.Omega.{arith}
-use borrow.Author.Rules.{rules}
-use lib.ListN.{length}
 use Rattle.rules.proofs.Bounds.{some_tick}
 use Rattle.wire.specs.Wire.{Put, pieces}
 use Rattle.text.proofs.Laws.{put_none, put_more}

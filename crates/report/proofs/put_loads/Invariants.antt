@@ -1,12 +1,8 @@
 -- `put_loads` meets its contract: the lines of the first p processors stand there.
-use mathlib.Core.Path.{◌≡◌, refl, subst, ◌∙◌}
-use Prim.Native.Nat.{ℕ, ◌+◌, ◌*◌, ◌-◌, ◌≤◌}
-use native.Mathlib.Omega.{arith}
-use borrow.Author.Rules.{rules}
+use mathlib.Core.Path.{◌≡◌}
+use Prim.Native.Nat.{◌+◌, ◌*◌, ◌-◌, ◌≤◌}
 use lib.ListN.{length}
-use Rattle.rules.proofs.Bounds.{some_tick}
 use Rattle.wire.specs.Wire.{Put, pieces}
-use Rattle.text.proofs.Laws.{put_none, put_more}
 use Rattle.lines.specs.Lines.{load_line}
 use Rattle.report.specs.Report.{thousandths}
 use Rattle.report.proofs.put_loads.Given as goal

@@ -1,6 +1,5 @@
 -- `put_placement` meets its contract: the lines of the tasks, then those of the processors.
 use native.Mathlib.Omega.{arith}
-use borrow.Author.Rules.{rules}
 use Rattle.wire.proofs.Put.{put_then}
 use Rattle.report.proofs.put_placement.Goals as goal
 

@@ -1,12 +1,9 @@
 -- `put_tasks` meets its contract: the lines of the first k tasks stand there.
-use mathlib.Core.Path.{◌≡◌, refl, ◌∙◌}
+use mathlib.Core.Path.{◌≡◌}
 use mathlib.Core.List.{List}
 use Prim.Native.Nat.{ℕ, ◌+◌, ◌*◌, ◌-◌, ◌≤◌}
-use native.Mathlib.Omega.{arith}
-use borrow.Author.Rules.{rules}
 use lib.ListN.{length, get_or}
 use Rattle.wire.specs.Wire.{Put, pieces}
-use Rattle.text.proofs.Laws.{put_none, put_more}
 use Rattle.judge.specs.declared.TaskMargin.{TaskMargin}
 use Rattle.judge.specs.Judge.{known_zero}
 use Rattle.lines.specs.Lines.{task_line}

@@ -14,12 +14,12 @@ read-reading-requires c = search rules
 pub judge_tasks_of-requires : goal.judge_tasks_of-requires
 unfolding report_answer report_buffer judge_of
 judge_tasks_of-requires c =
-    rw c.read-reading.ensures (read_sound _ (λ k. (c.shared_slice_known-1.given k).fits) (sym (ap (λ (x : Reading). x.outcome) c.read-reading.ensures) ∙ c.in-Readable.is))
+    rw c.read-reading.ensures (read_sound _ (search rules) (sym (ap (λ (x : Reading). x.outcome) c.read-reading.ensures) ∙ c.in-Readable.is))
 
 pub returns-in-Refused : goal.returns-in-Refused
 unfolding report_answer report_buffer judge_of
-returns-in-Refused c = rw (← c.read-reading.ensures, c.in-Refused.is) (refl, refl)
+returns-in-Refused c = rw (← c.read-reading.ensures, c.in-Refused.is) (record { answer = refl; buffer = refl })
 
 pub returns-in-Readable : goal.returns-in-Readable
 unfolding report_answer report_buffer judge_of
-returns-in-Readable c = rw (← c.read-reading.ensures, c.in-Readable.is) c.judge_tasks_of.ensures
+returns-in-Readable c = rw (← c.read-reading.ensures, c.in-Readable.is) (record { answer = c.judge_tasks_of.ensures.answer; buffer = c.judge_tasks_of.ensures.buffer })

@@ -1,14 +1,18 @@
 -- `margin_number` meets its contract: a margin that is held fits in 32 bits.
 use mathlib.Core.Path.{sym, ap}
+use Prim.Native.Nat.{◌<◌}
 use native.Mathlib.Omega.{arith}
 use borrow.Author.Rules.{rules}
+use lib.Signed.{mag}
 use mir.Syntax.{w32}
 use mir.ValLaws.{to_z-of_z}
 use Rattle.task_report.specs.Report.{margin_number}
 use Rattle.task_report.proofs.margin_number.Goals as goal
 
 pub returns-in-Known : goal.returns-in-Known
-returns-in-Known c = let small = c.known_told-1.given.0.1 in rw (to_z-of_z w32 _ (record { sfits = small })) (ap margin_number (sym c.in-Known.is), small)
+returns-in-Known c =
+    let small : mag c.in-Known.x < 2147483648 = search rules in
+    rw (to_z-of_z w32 _ (record { sfits = small })) (ap margin_number (sym c.in-Known.is), small)
 
 pub returns-in-Beyond : goal.returns-in-Beyond
 returns-in-Beyond c = (ap margin_number (sym c.in-Beyond.is), omega arith)

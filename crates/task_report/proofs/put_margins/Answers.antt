@@ -1,34 +1,27 @@
 -- `put_margins` meets its contract: from the place behind the responses on stand the first k margins.
 use mathlib.Core.Path.{◌≡◌, refl, ap, ◌∙◌}
-use mathlib.Core.List.{map}
-use Prim.Native.Nat.{◌+◌, ◌-◌, ◌*◌, ◌≤◌}
+use Prim.Native.Nat.{◌+◌}
 use native.Mathlib.Omega.{arith}
 use borrow.Author.Rules.{rules}
-use lib.ListN.{length, take, length-set}
-use lib.Seq.{sets, length-sets}
+use lib.ListN.{length, length-set}
+use lib.Seq.{length-sets}
 use mir.Syntax.{w32}
 use mir.ValLaws.{to_z-of_z}
 use Rattle.task_report.specs.Report.{task_number}
 use Rattle.judge.specs.Judge.{known_zero}
 use Rattle.task_report.proofs.Writing.{put_next}
-use Rattle.task_report.proofs.put_margins.Lts as lts
-use Rattle.task_report.proofs.put_margins.Reads as reads
-use Rattle.task_report.proofs.put_margins.Tie as tie
 use Rattle.task_report.proofs.put_margins.Goals as goal
-
--- the margins are an array of 24
-all : (c : lts.At-loop tie.the-claims reads.Pre reads.Post goal.the-invariant-loop-k goal.the-decreases-loop-k) → length c.args.margins ≡ 24
-all c = search rules
 
 pub loop-k-init : goal.loop-k-init
 loop-k-init c = (omega arith, c.requires.1, refl)
 
 pub loop-k-preserved : goal.loop-k-preserved
 loop-k-preserved c =
-    let number = c.margin_number-number.ensures in (
+    let number = c.margin_number-number.ensures in
+    let all : length c.args.margins ≡ 24 = search rules in (
       omega arith,
       simp length-set c.loop-k.invariant.1,
-      put_next task_number known_zero _ c.args.margins (2 + c.args.n) c.loop-k.k (omega (arith, all c.before.before.before)) (to_z-of_z w32 _ (record { sfits = number.1 }) ∙ number.0) c.loop-k.invariant.2,
+      put_next task_number known_zero _ c.args.margins (2 + c.args.n) c.loop-k.k (omega arith) (to_z-of_z w32 _ (record { sfits = number.1 }) ∙ number.0) c.loop-k.invariant.2,
     )
 
 pub shape_of-out : goal.shape_of-out

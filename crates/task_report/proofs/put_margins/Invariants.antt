@@ -1,16 +1,10 @@
 -- `put_margins` meets its contract: from the place behind the responses on stand the first k margins.
-use mathlib.Core.Path.{◌≡◌, refl, ap, ◌∙◌}
+use mathlib.Core.Path.{◌≡◌}
 use mathlib.Core.List.{map}
 use Prim.Native.Nat.{◌+◌, ◌-◌, ◌*◌, ◌≤◌}
-use native.Mathlib.Omega.{arith}
-use borrow.Author.Rules.{rules}
-use lib.ListN.{length, take, length-set}
-use lib.Seq.{sets, length-sets}
-use mir.Syntax.{w32}
-use mir.ValLaws.{to_z-of_z}
+use lib.ListN.{length, take}
+use lib.Seq.{sets}
 use Rattle.task_report.specs.Report.{task_number}
-use Rattle.judge.specs.Judge.{known_zero}
-use Rattle.task_report.proofs.Writing.{put_next}
 use Rattle.task_report.proofs.put_margins.Given as goal
 
 abbrev pub invariant-loop-k : goal.invariant-loop-k

@@ -1,17 +1,10 @@
 -- `put_numbers` meets its contract: behind the head stand the first k responses, then the margins.
-use mathlib.Core.Path.{◌≡◌, refl, ap, ap₂, ◌∙◌}
-use mathlib.Core.List.{List, ◌∷◌, ◌++◌, map}
-use Prim.Native.Nat.{ℕ, ◌+◌, ◌-◌, ◌*◌, ◌≤◌}
-use native.Mathlib.Omega.{arith}
-use borrow.Author.Rules.{rules}
-use lib.IntN.{ℤ, pos}
-use lib.ListN.{length, take, drop, length-set, length-map}
-use lib.Seq.{sets, length-sets, length-take-le}
-use mir.Syntax.{w32}
-use mir.ValLaws.{to_z_pos}
-use Rattle.layout.proofs.Places.{longest_is}
-use Rattle.task_report.specs.Report.{task_number}
-use Rattle.task_report.proofs.Writing.{put_next, put_all}
+use mathlib.Core.Path.{◌≡◌}
+use mathlib.Core.List.{map}
+use Prim.Native.Nat.{◌+◌, ◌-◌, ◌*◌, ◌≤◌}
+use lib.IntN.{pos}
+use lib.ListN.{length, take}
+use lib.Seq.{sets}
 use Rattle.task_report.proofs.put_numbers.Given as goal
 
 abbrev pub invariant-loop-k : goal.invariant-loop-k

@@ -1,0 +1,36 @@
+-- The candidates are tried one after the other; what holds of the sets with a candidate follows from the call one deeper.
+use mathlib.Core.Path.{◌≡◌, refl, sym, ◌∙◌}
+use mathlib.Core.Logic.{◌⊎◌, inl, inr, ⊎_elim}
+use mathlib.Core.Bool.{Bool, true}
+use Prim.Native.Nat.{ℕ, ◌+◌, ◌*◌, ◌-◌, ◌≤◌, ◌<◌}
+use native.Mathlib.Omega.{arith}
+use borrow.Author.Rules.{rules}
+use borrow.Author.Tests.{ltb-true, ltb-false, not-true, not-false}
+use lib.Dec.{T}
+use lib.ListN.{length}
+use Rattle.schedule.specs.Arrays.{tasks_of}
+use Rattle.schedule.proofs.TasksOfArrays.{with_set}
+use Rattle.rows.specs.Rows.{memory_row, exclusion_row, load_row}
+use Rattle.nogoods.specs.Nogoods.{KnownSets}
+use Rattle.mask.proofs.Laws.{insert_below}
+use Rattle.knapsack.specs.declared.Pack.{Pack}
+use Rattle.knapsack.specs.Knapsack.{Packs}
+use Rattle.knapsack.proofs.Taking.{room_memory, room_load}
+use Rattle.knapsack.proofs.Packing.{taken_refused, taken_bad, taken_packs, taken_on, Same, begun_packs, begun_packed, Packing, packing_start, packing_packs, packing_task, packing_reach, packing_next, packing_end}
+use Rattle.knapsack.proofs.+most_take.Given as goal
+
+abbrev pub invariant-most-loop-left : goal.invariant-most-loop-left
+invariant-most-loop-left l =
+    (24 - l.left.at ≤ 24 - l.initial.left.at) × (length l.list ≡ length l.initial.list) × Packs l.n l.timing l.initial.left l.initial.list l.count × Same l.initial.left l.left
+    × Packing l.n (tasks_of l.n l.timing) l.mode (memory_row l.rows) (exclusion_row l.rows) (load_row l.rows) l.weights l.initial.left l.initial.list l.count
+    l.left.candidates l.left.reach l.left.best l.list l.listed
+    × KnownSets (tasks_of l.n l.timing) l.list l.listed l.lateness
+
+abbrev pub decreases-most-loop-left : goal.decreases-most-loop-left
+decreases-most-loop-left l = 24 - l.left.at
+
+abbrev pub decreases-most : goal.decreases-most
+decreases-most l = 2 * (24 - l.pack.at) + 1
+
+abbrev pub decreases-take : goal.decreases-take
+decreases-take l = 2 * (24 - l.pack.at) + 2

@@ -1,0 +1,28 @@
+-- The processors are looked at one after the other.
+use mathlib.Core.Path.{◌≡◌, refl, sym, ◌∙◌}
+use mathlib.Core.Bool.{cond}
+use mathlib.Core.Logic.{⊎_elim}
+use mathlib.Core.List.{List}
+use Prim.Native.Nat.{ℕ, ◌-◌, ◌≤◌, ◌<◌}
+use native.Mathlib.Omega.{arith}
+use lib.Bits.{bit_and}
+use lib.ListN.{get_or}
+use Rattle.mask.specs.Mask.{has, Subset}
+use Rattle.mask.proofs.Tests.{and_right}
+use Rattle.mask.proofs.Laws.{has_and}
+use Rattle.table.specs.Table.{column}
+use Rattle.table.proofs.FilledUp.{column_start, column_next}
+use Rattle.schedule.specs.Arrays.{tasks_of}
+use Rattle.nogoods.specs.Nogoods.{KnownSets}
+use Rattle.partial.specs.Partial.{site_of}
+use Rattle.narrowing.specs.Narrowing.{narrow_of, may_of}
+use Rattle.narrowing.proofs.narrow_all.Given as goal
+
+abbrev pub invariant-loop-p : goal.invariant-loop-p
+invariant-loop-p l =
+    (l.p ≤ l.sizes.processors)
+    × (l.may ≡ column 8 l.p (λ r. cond (has l.anew r) (narrow_of l.timing l.rows l.messages l.sizes l.full l.list l.count (site_of l.s r) r (bit_and (get_or l.sets r 0) l.s.left)) (bit_and (get_or l.sets r 0) l.s.left)))
+    × KnownSets (tasks_of l.sizes.tasks l.timing) l.list l.count l.lateness
+
+abbrev pub decreases-loop-p : goal.decreases-loop-p
+decreases-loop-p l = l.sizes.processors - l.p
