@@ -29,8 +29,8 @@ abbrev pub steps_for : ℕ → ℕ
 steps_for n = cond (leb 40000000 n) 4000000000 (100 * n)
 
 -- it is not known whether all late sets have a place, and there were more than twice as many nodes as when that was tried last
-abbrev pub worth_aTry : List (List ℕ) → Bool
-worth_aTry h = eqb (at h numbers listing) 0 && ltb (at h numbers tried) (at h numbers nodes / 2)
+abbrev pub worth_a_try : List (List ℕ) → Bool
+worth_a_try h = eqb (at h numbers listing) 0 && ltb (at h numbers tried) (at h numbers nodes / 2)
 
 -- what a listing of all late sets tells of so many places: 1, they suffice; 2, they do not; 0, there were too few steps to tell
 abbrev pub finding_of : Covering → ℕ → ℕ

@@ -11,7 +11,7 @@ ghost use Rattle.region.specs.Begins.{Opens};
 ghost use Rattle.region.specs.Given.{Given, Gives};
 ghost use Rattle.late_sets.specs.LateSets.{CoversAs};
 ghost use Rattle.late_sets.specs.declared.Covering.{Covering};
-ghost use Rattle.late_listing.specs.LateListing.{emptied_of, steps_for, worth_aTry, finding_of, examined, Examines};
+ghost use Rattle.late_listing.specs.LateListing.{emptied_of, steps_for, worth_a_try, finding_of, examined, Examines};
 
 use heuristics::{Heuristics, LISTING, NODES, NUMBERS, TRIED};
 use late_cache::LateCache;
@@ -56,7 +56,7 @@ fn steps_for(nodes: u32) -> u32
 
 // Whether it is still to be found out that all late sets have a place, and the decision had more than twice as many nodes as when that failed last.
 fn worth_a_try(heuristics: &Heuristics) -> bool
-    ensures { result ≡ worth_aTry heuristics.now }
+    ensures { result ≡ worth_a_try heuristics.now }
 {
     if heuristics[NUMBERS][LISTING] != 0 {
         return false;

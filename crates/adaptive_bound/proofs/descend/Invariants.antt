@@ -1,0 +1,27 @@
+-- One round after another, each after the bounds before it. The measure is how many rounds are left, and one more while the region is not given up.
+use mathlib.Core.Path.{◌≡◌, refl, ◌∙◌}
+use mathlib.Core.Bool.{false, cond}
+use Prim.Native.Nat.{◌+◌, ◌<◌}
+use native.Mathlib.Omega.{arith}
+use borrow.Author.Rules.{rules}
+use borrow.Author.Tests.{eqb-false, not-true}
+use lib.Dec.{eqb}
+use lib.ListN.{length}
+use Rattle.region.specs.Given.{Gives}
+use Rattle.candidates.proofs.Choosing.{below_more, open_below}
+use Rattle.bound_cache.specs.BoundCache.{LearntOf}
+use Rattle.capacity_bound.specs.Bound.{BoundedAs}
+use Rattle.capacity_bound.specs.CapacityBound.{Weighable}
+use Rattle.capacity_bound.proofs.Bounding.{weighable_then, bounded_not, bounded_then}
+use Rattle.descent.specs.Descent.{Moves}
+use Rattle.descent.proofs.Moving.{begin_moves, Later, after_later}
+use Rattle.adaptive_bound.proofs.descend.Given as goal
+
+abbrev pub invariant-loop-hopeless : goal.invariant-loop-hopeless
+invariant-loop-hopeless l =
+    (length l.list ≡ length l.initial.list) × Moves l.descent
+    × Gives l.sizes l.timing l.rows l.messages (λ t. Weighable t l.mode l.s l.sets l.initial.list l.count) (λ t. LearntOf t l.initial.list l.count l.rows l.initial.lateness l.initial.bounds)
+    (λ t. BoundedAs t l.mode l.s l.initial.list l.count l.list (record { hopeless = l.hopeless; count = l.listed }) × LearntOf t l.list l.listed l.rows l.lateness l.bounds)
+
+abbrev pub decreases-loop-hopeless : goal.decreases-loop-hopeless
+decreases-loop-hopeless l = cond l.hopeless 0 (l.descent.rounds + 1)

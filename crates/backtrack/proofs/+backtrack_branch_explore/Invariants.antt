@@ -1,0 +1,33 @@
+-- Every processor is passed over, one after the other from the first on; or the search ends at one of them. The tasks left fall with each call.
+use native.Mathlib.Omega.{arith}
+use borrow.Author.Rules.{rules}
+use borrow.Author.Tests.{not-true, not-false}
+use mathlib.Core.Path.{◌≡◌, refl, sym, ◌∙◌}
+use Prim.Native.Nat.{ℕ, ◌+◌, ◌*◌, ◌-◌, ◌≤◌, ◌<◌}
+use lib.ListN.{length}
+use Rattle.region.specs.Begins.{Begins}
+use Rattle.region.specs.Given.{Gives}
+use Rattle.bound_cache.specs.BoundCache.{LearntOf}
+use Rattle.symmetry.proofs.Asking.{asks}
+use Rattle.backtrack.proofs.Backtracking.{backtracked_neither, backtracked_end, bounded_begins, bounded_hopeless, bounded_then}
+use Rattle.backtrack.proofs.Backtracking.{open_low, open_below, picked_waits, explored_narrowed, explored_symmetric, explored_closed, explored_begins, explored_falls, explored_open}
+use Rattle.backtrack.proofs.Backtracking.{Backtracking, backtracking_start, backtracking_begins, backtracking_stop, backtracking_next, backtracking_end}
+use Rattle.backtrack.proofs.+backtrack_branch_explore.Given as goal
+
+abbrev pub invariant-branch-loop-i : goal.invariant-branch-loop-i
+invariant-branch-loop-i l =
+    (l.i ≤ l.sizes.processors) × (length l.list ≡ length l.initial.list)
+    × Gives l.sizes l.timing l.rows l.messages (λ t. Begins t l.mode l.s l.initial.list l.initial.at) (λ t. LearntOf t l.initial.list l.initial.at l.rows l.initial.lateness l.initial.bounds)
+    (λ t. Backtracking t l.mode l.s l.k l.initial.list l.initial.at l.first l.sizes.processors l.i l.list l.at × LearntOf t l.list l.at l.rows l.lateness l.bounds)
+
+abbrev pub decreases-branch-loop-i : goal.decreases-branch-loop-i
+decreases-branch-loop-i l = l.sizes.processors - l.i
+
+abbrev pub decreases-branch : goal.decreases-branch
+decreases-branch l = 3 * l.s.left + 1
+
+abbrev pub decreases-explore : goal.decreases-explore
+decreases-explore l = 3 * l.s.left
+
+abbrev pub decreases-backtrack : goal.decreases-backtrack
+decreases-backtrack l = 3 * l.s.left + 2

@@ -1,0 +1,7 @@
+-- A remainder by m is less than m.
+use native.Mathlib.Nat.{mod-lt}
+use borrow.Author.Rules.{rules}
+use Rattle.backtrack.proofs.offset.Goals as goal
+
+pub returns : goal.returns
+returns c = mod-lt _ c.requires

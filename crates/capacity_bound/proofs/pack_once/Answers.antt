@@ -1,0 +1,29 @@
+-- The bound that is kept, or what the packing finds, which is kept then.
+use native.Mathlib.Omega.{arith}
+use borrow.Author.Rules.{rules}
+use Rattle.bound_cache.proofs.Laws.{recalled, bound_cache_keep}
+use Rattle.capacity_bound.proofs.Weighted.{lower_is}
+use Rattle.capacity_bound.proofs.Tightening.{tight_recalled, tight_capped}
+use Rattle.capacity_bound.proofs.pack_once.Goals as goal
+
+pub returns-then-kept : goal.returns-then-kept
+returns-then-kept c = (
+  λ t l w k. (
+    tight_recalled w.holds (rw (← l.rules.processors) c.requires.2) c.requires.3 (c.requires.1 c.requires.4) w.nogoods (recalled k.keeps c.recall-kept.ensures c.if-kept.true) (lower_is _ _ c.lower.ensures),
+    k,
+  ),
+  omega arith,
+)
+
+pub pack-packed-requires : goal.pack-packed-requires
+pack-packed-requires c =
+    let z = c.requires in
+    ((z.0.0, z.0.1, z.0.2, z.0.3.knows), z.2)
+
+pub returns : goal.returns
+returns c = (
+  λ t l w k.
+      let a = c.pack-packed.ensures.0 t l w k.knows in
+      (a.0, record { knows = a.1; keeps = rw c.keep.ensures (bound_cache_keep _ _ _ _ _ _ k.keeps (tight_capped c.pack-packed.result c.requires.3 (c.requires.1 c.requires.4) a.0)) }),
+  c.pack-packed.ensures.1,
+)

@@ -1,0 +1,26 @@
+-- The processors' bounds are made tighter one after the other; their sum is known at each step.
+use mathlib.Core.Path.{◌≡◌, refl, ◌∙◌}
+use Prim.Native.Nat.{◌-◌, ◌*◌, ◌≤◌}
+use native.Mathlib.Omega.{arith}
+use borrow.Author.Rules.{rules}
+use lib.ListN.{length, get_or, length-set}
+use Rattle.finite.specs.Finite.{sum_to}
+use Rattle.finite.proofs.Only.{sum_bound}
+use Rattle.region.specs.Given.{Gives}
+use Rattle.candidates.proofs.Choosing.{below_more, open_below, eligible_below}
+use Rattle.bound_cache.specs.BoundCache.{LearntOf}
+use Rattle.subgradient.specs.Subgradient.{heaviest}
+use Rattle.capacity_bound.specs.CapacityBound.{packing_fuel, Weighable}
+use Rattle.capacity_bound.proofs.Weighted.{weight_among}
+use Rattle.capacity_bound.proofs.Tightening.{tops_start, Tightening, tightening_start, tightening_topped, tightening_next, tightening_end}
+use Rattle.capacity_bound.proofs.weigh.Given as goal
+
+abbrev pub invariant-loop-p : goal.invariant-loop-p
+invariant-loop-p l =
+    (l.p ≤ l.m) × (length l.tops ≡ 8) × (l.sum ≡ sum_to l.m (λ r. get_or l.tops r 0)) × (length l.list ≡ length l.initial.list)
+    × Gives l.sizes l.timing l.rows l.messages (λ t. Weighable t l.mode l.s l.sets l.initial.list l.count) (λ t. LearntOf t l.initial.list l.count l.rows l.initial.lateness l.initial.bounds)
+    (λ t. Tightening t l.mode l.s l.weights l.sets l.initial.list l.count l.tops l.list l.listed × LearntOf t l.list l.listed l.rows l.lateness l.bounds)
+    × (length l.found ≡ 8) × (l.calls ≤ packing_fuel * l.p)
+
+abbrev pub decreases-loop-p : goal.decreases-loop-p
+decreases-loop-p l = l.m - l.p
