@@ -1,0 +1,21 @@
+-- What may stand on each processor is worked out once. The fuel grows by half until it is at least 900,000, faster than the number of runs.
+use mathlib.Core.Path.{refl, sym, ◌∙◌}
+use mathlib.Core.Bool.{true, false≢true}
+use mathlib.Core.Logic.{⊎_elim}
+use Prim.Native.Nat.{◌-◌, ◌≤◌}
+use native.Mathlib.Omega.{arith}
+use borrow.Author.Rules.{rules}
+use Rattle.nogoods.proofs.Covers.{known_forgot}
+use Rattle.region.specs.Begins.{Prepared}
+use Rattle.region.specs.Given.{Gives}
+use Rattle.bound_cache.specs.BoundCache.{Learnt}
+use Rattle.restarts.proofs.Answering.{ready_prepared, decided_begin, decided}
+use Rattle.restarts.proofs.decide.Given as goal
+
+abbrev pub invariant-loop-fuel : goal.invariant-loop-fuel
+invariant-loop-fuel l =
+    (300 ≤ l.fuel) × (l.fuel ≤ 1350000) × (l.run ≤ l.fuel)
+    × Gives l.sizes l.timing l.rows l.messages (λ t. Prepared t l.begin) (λ t. Learnt t l.rows l.initial.lateness l.initial.bounds) (λ t. Learnt t l.rows l.lateness l.bounds)
+
+abbrev pub decreases-loop-fuel : goal.decreases-loop-fuel
+decreases-loop-fuel l = 900000 - l.fuel
