@@ -13,7 +13,7 @@ use Rattle.rules.specs.Placement.{elsewhere, apart, together, some_pair}
 unfoldable pub residence_broken : Table → (ℕ → ℕ → Bool) → ℕ → Bool
 residence_broken t on k = some_below t.processors.count (λ p. on k p && not (has (get_or t.tasks.residence k 0) p))
 
--- 01: 102 co_residence (group): two of its tasks stand on different processors
+-- 01: 102 co-residence (group): two of its tasks stand on different processors
 unfoldable pub co_residence_broken : Table → (ℕ → ℕ → Bool) → ℕ → Bool
 co_residence_broken t on g = some_pair t.tasks.count (get_or t.co.mask g 0) (λ i j. apart t.processors.count (on i) (on j))
 

@@ -1,19 +1,12 @@
 -- One round after another, each after the bounds before it. The measure is how many rounds are left, and one more while the region is not given up.
 use mathlib.Core.Path.{◌≡◌, refl, ◌∙◌}
-use mathlib.Core.Bool.{Bool, true, false, cond, not}
-use Prim.Native.Nat.{ℕ, ◌+◌, ◌<◌}
+use mathlib.Core.Bool.{true, false}
+use Prim.Native.Nat.{ℕ, ◌<◌}
 use native.Mathlib.Omega.{arith}
 use borrow.Author.Rules.{rules}
-use borrow.Author.Tests.{not-true}
-use lib.ListN.{length}
-use Rattle.region.specs.Given.{Gives}
 use Rattle.candidates.proofs.Choosing.{below_more, open_below}
-use Rattle.bound_cache.specs.BoundCache.{LearntOf}
-use Rattle.capacity_bound.specs.Bound.{BoundedAs}
-use Rattle.capacity_bound.specs.CapacityBound.{Weighable}
 use Rattle.capacity_bound.proofs.Bounding.{weighable_then, bounded_not, bounded_then}
-use Rattle.descent.specs.Descent.{Moves}
-use Rattle.descent.proofs.Moving.{begin_moves, Later, after_later}
+use Rattle.descent.proofs.Moving.{begin_moves, after_later}
 use Rattle.adaptive_bound.proofs.descend.Goals as goal
 
 -- a round was left

@@ -1,20 +1,13 @@
 -- One round after another, each after the bounds before it. The measure is how many rounds are left, and one more while the region is not given up.
-use mathlib.Core.Path.{◌≡◌, refl, ◌∙◌}
-use mathlib.Core.Bool.{false, cond}
-use Prim.Native.Nat.{◌+◌, ◌<◌}
-use native.Mathlib.Omega.{arith}
-use borrow.Author.Rules.{rules}
-use borrow.Author.Tests.{eqb-false, not-true}
-use lib.Dec.{eqb}
+use mathlib.Core.Path.{◌≡◌}
+use mathlib.Core.Bool.{cond}
+use Prim.Native.Nat.{◌+◌}
 use lib.ListN.{length}
 use Rattle.region.specs.Given.{Gives}
-use Rattle.candidates.proofs.Choosing.{below_more, open_below}
 use Rattle.bound_cache.specs.BoundCache.{LearntOf}
 use Rattle.capacity_bound.specs.Bound.{BoundedAs}
 use Rattle.capacity_bound.specs.CapacityBound.{Weighable}
-use Rattle.capacity_bound.proofs.Bounding.{weighable_then, bounded_not, bounded_then}
 use Rattle.descent.specs.Descent.{Moves}
-use Rattle.descent.proofs.Moving.{begin_moves, Later, after_later}
 use Rattle.adaptive_bound.proofs.descend.Given as goal
 
 abbrev pub invariant-loop-hopeless : goal.invariant-loop-hopeless

@@ -1,7 +1,6 @@
 -- `append` lays a record over the part that it lends on.
 use mathlib.Core.List.{[], ◌∷◌}
 use Prim.Native.Nat.{◌*◌}
-use borrow.Author.Rules.{rules}
 use Rattle.wire.proofs.Laws.{record_length}
 use Rattle.wire.proofs.Put.{laid_part}
 use Rattle.answer.specs.Answer.{conflict_bytes}

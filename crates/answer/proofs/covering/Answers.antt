@@ -1,10 +1,7 @@
 -- `covering` meets its contract: no conflict of the blocks so far is a subset.
 use mathlib.Core.Path.{sym}
-use Prim.Native.Nat.{◌-◌}
 use native.Mathlib.Omega.{arith}
-use Rattle.finite.proofs.Search.{Searched, first_upto, search_start, part_found, part_missed, part_last}
-use Rattle.mask.specs.Mask.{within}
-use Rattle.answer.specs.Answer.{mask_at}
+use Rattle.finite.proofs.Search.{first_upto, search_start, part_found, part_missed, part_last}
 use Rattle.answer.proofs.covering.Goals as goal
 
 pub loop-j-init : goal.loop-j-init

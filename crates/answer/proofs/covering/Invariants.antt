@@ -1,8 +1,6 @@
 -- `covering` meets its contract: no conflict of the blocks so far is a subset.
-use mathlib.Core.Path.{sym}
 use Prim.Native.Nat.{◌-◌}
-use native.Mathlib.Omega.{arith}
-use Rattle.finite.proofs.Search.{Searched, first_upto, search_start, part_found, part_missed, part_last}
+use Rattle.finite.proofs.Search.{Searched}
 use Rattle.mask.specs.Mask.{within}
 use Rattle.answer.specs.Answer.{mask_at}
 use Rattle.answer.proofs.covering.Given as goal

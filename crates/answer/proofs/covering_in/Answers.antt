@@ -1,10 +1,7 @@
 -- `covering_in` meets its contract: no conflict passed so far is a subset.
 use mathlib.Core.Path.{sym, ◌∙◌}
-use Prim.Native.Nat.{◌+◌, ◌-◌}
 use native.Mathlib.Omega.{arith}
-use Rattle.finite.proofs.Search.{Searched, search_start, search_next, search_found, search_missed}
-use Rattle.mask.specs.Mask.{within}
-use Rattle.answer.specs.Answer.{mask_at}
+use Rattle.finite.proofs.Search.{search_start, search_next, search_found, search_missed}
 use Rattle.answer.proofs.covering_in.Goals as goal
 
 pub loop-i-init : goal.loop-i-init

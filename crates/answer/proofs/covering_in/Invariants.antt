@@ -1,8 +1,6 @@
 -- `covering_in` meets its contract: no conflict passed so far is a subset.
-use mathlib.Core.Path.{sym, ◌∙◌}
 use Prim.Native.Nat.{◌+◌, ◌-◌}
-use native.Mathlib.Omega.{arith}
-use Rattle.finite.proofs.Search.{Searched, search_start, search_next, search_found, search_missed}
+use Rattle.finite.proofs.Search.{Searched}
 use Rattle.mask.specs.Mask.{within}
 use Rattle.answer.specs.Answer.{mask_at}
 use Rattle.answer.proofs.covering_in.Given as goal

@@ -1,7 +1,6 @@
 -- `holds` meets its contract: what is read is the mask of the record.
 use mathlib.Core.Path.{ap, ◌∙◌}
 use Prim.Native.Nat.{ℕ}
-use borrow.Author.Rules.{rules}
 use Rattle.mask.specs.Mask.{within}
 use Rattle.answer.proofs.holds.Goals as goal
 

@@ -1,9 +1,7 @@
 -- `listed` meets its contract: the masks of the blocks so far are all others.
 use mathlib.Core.Path.{sym}
-use Prim.Native.Nat.{◌+◌, ◌*◌, ◌-◌}
 use native.Mathlib.Omega.{arith}
-use Rattle.finite.proofs.Search.{Searched, search_start, some_part_found, some_part_missed, some_part_last}
-use Rattle.wire.specs.Wire.{bytes, bytes_at}
+use Rattle.finite.proofs.Search.{search_start, some_part_found, some_part_missed, some_part_last}
 use Rattle.answer.proofs.listed.Goals as goal
 
 pub loop-j-init : goal.loop-j-init

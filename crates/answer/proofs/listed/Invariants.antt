@@ -1,8 +1,6 @@
 -- `listed` meets its contract: the masks of the blocks so far are all others.
-use mathlib.Core.Path.{sym}
 use Prim.Native.Nat.{◌+◌, ◌*◌, ◌-◌}
-use native.Mathlib.Omega.{arith}
-use Rattle.finite.proofs.Search.{Searched, search_start, some_part_found, some_part_missed, some_part_last}
+use Rattle.finite.proofs.Search.{Searched}
 use Rattle.wire.specs.Wire.{bytes, bytes_at}
 use Rattle.answer.proofs.listed.Given as goal
 

@@ -1,5 +1,4 @@
 -- `mask_at` meets its contract: the word that is read is the mask of the record.
-use borrow.Author.Rules.{rules}
 use Rattle.answer.proofs.mask_at.Goals as goal
 
 pub returns : goal.returns

@@ -1,7 +1,6 @@
 -- `put_end` lays the end over the part that it lends on.
 use mathlib.Core.Path.{refl}
 use Prim.Native.Nat.{◌*◌}
-use borrow.Author.Rules.{rules}
 use Rattle.answer.specs.Answer.{end_bytes}
 use Rattle.wire.proofs.Put.{laid_part}
 use Rattle.answer.proofs.put_end.Goals as goal

@@ -2,16 +2,12 @@
 use native.Mathlib.Omega.{arith}
 use borrow.Author.Rules.{rules}
 use borrow.Author.Tests.{not-true, not-false}
-use mathlib.Core.Path.{◌≡◌, refl, sym, ◌∙◌}
-use Prim.Native.Nat.{ℕ, ◌+◌, ◌*◌, ◌-◌, ◌≤◌, ◌<◌}
-use lib.ListN.{length}
-use Rattle.region.specs.Begins.{Begins}
-use Rattle.region.specs.Given.{Gives}
-use Rattle.bound_cache.specs.BoundCache.{LearntOf}
+use mathlib.Core.Path.{refl, sym, ◌∙◌}
+use Prim.Native.Nat.{◌-◌}
 use Rattle.symmetry.proofs.Asking.{asks}
 use Rattle.backtrack.proofs.Backtracking.{backtracked_neither, backtracked_end, bounded_begins, bounded_hopeless, bounded_then}
 use Rattle.backtrack.proofs.Backtracking.{open_low, open_below, picked_waits, explored_narrowed, explored_symmetric, explored_closed, explored_begins, explored_falls, explored_open}
-use Rattle.backtrack.proofs.Backtracking.{Backtracking, backtracking_start, backtracking_begins, backtracking_stop, backtracking_next, backtracking_end}
+use Rattle.backtrack.proofs.Backtracking.{backtracking_start, backtracking_begins, backtracking_stop, backtracking_next, backtracking_end}
 use Rattle.backtrack.proofs.+backtrack_branch_explore.Goals as goal
 
 pub backtrack-returns-then-gives_up : goal.backtrack-returns-then-gives_up

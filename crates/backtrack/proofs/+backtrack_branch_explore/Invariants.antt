@@ -1,17 +1,11 @@
 -- Every processor is passed over, one after the other from the first on; or the search ends at one of them. The tasks left fall with each call.
-use native.Mathlib.Omega.{arith}
-use borrow.Author.Rules.{rules}
-use borrow.Author.Tests.{not-true, not-false}
-use mathlib.Core.Path.{◌≡◌, refl, sym, ◌∙◌}
-use Prim.Native.Nat.{ℕ, ◌+◌, ◌*◌, ◌-◌, ◌≤◌, ◌<◌}
+use mathlib.Core.Path.{◌≡◌}
+use Prim.Native.Nat.{◌+◌, ◌*◌, ◌-◌, ◌≤◌}
 use lib.ListN.{length}
 use Rattle.region.specs.Begins.{Begins}
 use Rattle.region.specs.Given.{Gives}
 use Rattle.bound_cache.specs.BoundCache.{LearntOf}
-use Rattle.symmetry.proofs.Asking.{asks}
-use Rattle.backtrack.proofs.Backtracking.{backtracked_neither, backtracked_end, bounded_begins, bounded_hopeless, bounded_then}
-use Rattle.backtrack.proofs.Backtracking.{open_low, open_below, picked_waits, explored_narrowed, explored_symmetric, explored_closed, explored_begins, explored_falls, explored_open}
-use Rattle.backtrack.proofs.Backtracking.{Backtracking, backtracking_start, backtracking_begins, backtracking_stop, backtracking_next, backtracking_end}
+use Rattle.backtrack.proofs.Backtracking.{Backtracking}
 use Rattle.backtrack.proofs.+backtrack_branch_explore.Given as goal
 
 abbrev pub invariant-branch-loop-i : goal.invariant-branch-loop-i

@@ -1,7 +1,5 @@
 -- A search that is not limited goes on.
 use mathlib.Core.Bool.{false≢true}
-use borrow.Author.Rules.{rules}
-use borrow.Author.Tests.{not-false}
 use Rattle.backtrack.proofs.gives_up.Goals as goal
 
 pub returns-then-not-limited : goal.returns-then-not-limited

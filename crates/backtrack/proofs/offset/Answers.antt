@@ -1,6 +1,5 @@
 -- A remainder by m is less than m.
 use native.Mathlib.Nat.{mod-lt}
-use borrow.Author.Rules.{rules}
 use Rattle.backtrack.proofs.offset.Goals as goal
 
 pub returns : goal.returns

@@ -1,8 +1,7 @@
 -- Where nothing is listed, with the candidates of the state. Where conflicts are listed, without listing first; where that gives the region up, once more.
 use mathlib.Core.Path.{◌≡◌}
 use mathlib.Core.Bool.{true}
-use borrow.Author.Rules.{rules}
-use borrow.Author.Tests.{not-true, not-false}
+use borrow.Author.Tests.{not-true}
 use Rattle.capacity_bound.proofs.Bounding.{bounded_not, bounded_then}
 use Rattle.bound.proofs.Bounding.{bounded_first, narrowed_weighable}
 use Rattle.bound.proofs.Noting.{adapted_then, heuristics_skipped, heuristics_tried}

@@ -1,12 +1,6 @@
 -- One row after another, until the region is given up.
-use mathlib.Core.Path.{◌≡◌, refl, ◌∙◌}
+use mathlib.Core.Path.{refl, ◌∙◌}
 use Prim.Native.Nat.{◌-◌}
-use borrow.Author.Rules.{rules}
-use lib.ListN.{length}
-use Rattle.region.specs.Given.{Gives}
-use Rattle.bound_cache.specs.BoundCache.{LearntOf}
-use Rattle.capacity_bound.specs.Bound.{BoundedAs}
-use Rattle.capacity_bound.specs.CapacityBound.{Weighable}
 use Rattle.capacity_bound.proofs.Bounding.{weighable_then, bounded_not, bounded_then}
 use Rattle.bound.proofs.by_rows.Goals as goal
 

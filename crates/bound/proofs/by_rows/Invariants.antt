@@ -1,13 +1,11 @@
 -- One row after another, until the region is given up.
-use mathlib.Core.Path.{◌≡◌, refl, ◌∙◌}
+use mathlib.Core.Path.{◌≡◌}
 use Prim.Native.Nat.{◌-◌}
-use borrow.Author.Rules.{rules}
 use lib.ListN.{length}
 use Rattle.region.specs.Given.{Gives}
 use Rattle.bound_cache.specs.BoundCache.{LearntOf}
 use Rattle.capacity_bound.specs.Bound.{BoundedAs}
 use Rattle.capacity_bound.specs.CapacityBound.{Weighable}
-use Rattle.capacity_bound.proofs.Bounding.{weighable_then, bounded_not, bounded_then}
 use Rattle.bound.proofs.by_rows.Given as goal
 
 abbrev pub invariant-loop-row : goal.invariant-loop-row

@@ -1,7 +1,6 @@
 -- By the tests.
 use mathlib.Core.Path.{refl}
 use native.Mathlib.Omega.{arith}
-use borrow.Author.Rules.{rules}
 use borrow.Author.Tests.{lt-ltb, le-ltb}
 use Rattle.bound.proofs.credit.Goals as goal
 

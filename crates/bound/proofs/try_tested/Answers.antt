@@ -1,5 +1,4 @@
 -- The bound after the candidates.
-use borrow.Author.Rules.{rules}
 use Rattle.bound.proofs.Bounding.{candidates_weighable, bounded_from}
 use Rattle.bound.proofs.try_tested.Goals as goal
 

@@ -1,6 +1,5 @@
 -- The entry's six numbers are stored one after another.
 use mathlib.Core.Path.{refl}
-use borrow.Author.Rules.{rules}
 use Rattle.bound_cache.proofs.keep.Goals as goal
 
 pub returns : goal.returns

@@ -1,6 +1,5 @@
 -- The entry is looked at where its number says.
 use mathlib.Core.Path.{refl}
-use borrow.Author.Rules.{rules}
 use Rattle.bound_cache.proofs.recall.Goals as goal
 
 pub returns : goal.returns

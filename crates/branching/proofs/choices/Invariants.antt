@@ -1,12 +1,8 @@
 -- The processors are asked one by one.
-use mathlib.Core.Logic.{⊎_elim}
-use mathlib.Core.Path.{refl}
 use Prim.Native.Nat.{◌-◌}
-use native.Mathlib.Omega.{arith}
-use borrow.Author.Rules.{rules}
 use lib.ListN.{get_or}
 use Rattle.mask.specs.Mask.{has}
-use Rattle.finite.proofs.SumLoop.{Summing, summing_start, summing_in, summing_out, summing_end}
+use Rattle.finite.proofs.SumLoop.{Summing}
 use Rattle.branching.proofs.choices.Given as goal
 
 abbrev pub invariant-loop-p : goal.invariant-loop-p

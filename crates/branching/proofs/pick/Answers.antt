@@ -7,7 +7,7 @@ use native.Mathlib.Omega.{arith}
 use borrow.Author.Rules.{rules}
 use Rattle.mask.specs.Mask.{remove_of}
 use Rattle.mask.proofs.Laws.{below_has}
-use Rattle.mask.proofs.Visit.{Visit, visit_start, visit_member, visit_less, visit_next}
+use Rattle.mask.proofs.Visit.{visit_start, visit_member, visit_less, visit_next}
 use Rattle.branching.specs.Branching.{members_from, pick_from, pick_of}
 use Rattle.branching.proofs.Members.{members_none, members_next}
 use Rattle.branching.proofs.Picking.{pick_none, pick_better, pick_worse, pick_end}

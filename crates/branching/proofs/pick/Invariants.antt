@@ -1,16 +1,7 @@
 -- The tasks are looked at in rising order: what is left of them, with the best so far, gives the answer.
-use mathlib.Core.Path.{◌≡◌, refl}
-use mathlib.Core.Logic.{⊎_elim}
-use mathlib.Core.List.{◌∷◌}
-use Prim.Native.Nat.{◌<◌}
-use native.Mathlib.Omega.{arith}
-use borrow.Author.Rules.{rules}
-use Rattle.mask.specs.Mask.{remove_of}
-use Rattle.mask.proofs.Laws.{below_has}
-use Rattle.mask.proofs.Visit.{Visit, visit_start, visit_member, visit_less, visit_next}
+use mathlib.Core.Path.{◌≡◌}
+use Rattle.mask.proofs.Visit.{Visit}
 use Rattle.branching.specs.Branching.{members_from, pick_from, pick_of}
-use Rattle.branching.proofs.Members.{members_none, members_next}
-use Rattle.branching.proofs.Picking.{pick_none, pick_better, pick_worse, pick_end}
 use Rattle.branching.proofs.pick.Given as goal
 
 abbrev pub invariant-loop-rest : goal.invariant-loop-rest

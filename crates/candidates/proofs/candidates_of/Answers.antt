@@ -1,14 +1,10 @@
 -- The processors are looked at one after the other.
-use mathlib.Core.Path.{◌≡◌, refl, ◌∙◌}
-use Prim.Native.Nat.{◌-◌, ◌≤◌}
+use mathlib.Core.Path.{refl, ◌∙◌}
+use Prim.Native.Nat.{◌-◌}
 use native.Mathlib.Omega.{arith}
 use borrow.Author.Rules.{rules}
-use lib.ListN.{length, length-set}
-use Rattle.timing.specs.Timing.{tasks_in}
-use Rattle.nogoods.specs.Nogoods.{KnownSets}
-use Rattle.region.specs.Begins.{Opens}
-use Rattle.region.specs.Given.{Gives}
-use Rattle.candidates.proofs.Choosing.{Collecting, collecting_start, collecting_next, collecting_end}
+use lib.ListN.{length-set}
+use Rattle.candidates.proofs.Choosing.{collecting_start, collecting_next, collecting_end}
 use Rattle.candidates.proofs.candidates_of.Goals as goal
 
 pub loop-p-init : goal.loop-p-init

@@ -1,14 +1,12 @@
 -- The processors are looked at one after the other.
-use mathlib.Core.Path.{◌≡◌, refl, ◌∙◌}
+use mathlib.Core.Path.{◌≡◌}
 use Prim.Native.Nat.{◌-◌, ◌≤◌}
-use native.Mathlib.Omega.{arith}
-use borrow.Author.Rules.{rules}
-use lib.ListN.{length, length-set}
+use lib.ListN.{length}
 use Rattle.timing.specs.Timing.{tasks_in}
 use Rattle.nogoods.specs.Nogoods.{KnownSets}
 use Rattle.region.specs.Begins.{Opens}
 use Rattle.region.specs.Given.{Gives}
-use Rattle.candidates.proofs.Choosing.{Collecting, collecting_start, collecting_next, collecting_end}
+use Rattle.candidates.proofs.Choosing.{Collecting}
 use Rattle.candidates.proofs.candidates_of.Given as goal
 
 abbrev pub invariant-loop-p : goal.invariant-loop-p

@@ -1,22 +1,14 @@
 -- The open tasks are looked at one after the other.
-use mathlib.Core.Path.{◌≡◌, refl, ◌∙◌}
+use mathlib.Core.Path.{refl, ◌∙◌}
 use mathlib.Core.Logic.{⊎_elim}
 use Prim.Native.Nat.{◌<◌}
 use native.Mathlib.Omega.{arith}
 use borrow.Author.Rules.{rules}
 use lib.Dec.{T}
-use lib.ListN.{length}
 use Rattle.mask.specs.Mask.{has}
-use Rattle.mask.proofs.Visit.{Visit, visit_start, visit_member, visit_less, visit_next}
-use Rattle.table.specs.declared.Table.{Table}
-use Rattle.timing.specs.Timing.{tasks_in}
-use Rattle.nogoods.specs.Nogoods.{KnownSets}
-use Rattle.partial.specs.declared.State.{State}
-use Rattle.partial.specs.Partial.{site_of}
+use Rattle.mask.proofs.Visit.{visit_start, visit_member, visit_less, visit_next}
 use Rattle.partial.proofs.Deciding.{left_at, free_at}
-use Rattle.region.specs.Lends.{Lends}
-use Rattle.region.specs.Begins.{Opens}
-use Rattle.candidates.proofs.Choosing.{Choosing, choosing_start, choosing_in, choosing_out, choosing_end}
+use Rattle.candidates.proofs.Choosing.{choosing_start, choosing_in, choosing_out, choosing_end}
 use Rattle.candidates.proofs.candidates_on.Lts as lts
 use Rattle.candidates.proofs.candidates_on.Reads as reads
 use Rattle.candidates.proofs.candidates_on.Tie as tie

@@ -1,7 +1,6 @@
 -- `like` meets its contract. Assumes nothing.
-use Prim.Native.Nat.{◌-◌, ◌≤◌}
+use Prim.Native.Nat.{◌-◌}
 use native.Mathlib.Omega.{arith}
-use borrow.Author.Rules.{rules}
 use Rattle.capacity_bound.proofs.like.Goals as goal
 
 pub returns-then-covers : goal.returns-then-covers

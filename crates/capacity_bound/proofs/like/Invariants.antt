@@ -1,7 +1,5 @@
 -- `like` meets its contract. Assumes nothing.
 use Prim.Native.Nat.{◌-◌, ◌≤◌}
-use native.Mathlib.Omega.{arith}
-use borrow.Author.Rules.{rules}
 use Rattle.capacity_bound.proofs.like.Given as goal
 
 abbrev pub invariant-loop-r : goal.invariant-loop-r

@@ -3,10 +3,7 @@ use mathlib.Core.Path.{refl}
 use mathlib.Core.Bool.{true}
 use Prim.Native.Nat.{◌-◌}
 use native.Mathlib.Omega.{arith}
-use borrow.Author.Rules.{rules}
-use lib.ListN.{get_or}
-use Rattle.finite.proofs.SumLoop.{Summing, summing_start, summing_in, summing_end}
-use Rattle.subgradient.specs.Subgradient.{heaviest}
+use Rattle.finite.proofs.SumLoop.{summing_start, summing_in, summing_end}
 use Rattle.capacity_bound.proofs.sum_of.Goals as goal
 
 pub loop-p-init : goal.loop-p-init

@@ -1,11 +1,8 @@
 -- `sum_of` meets its contract. Assumes nothing.
-use mathlib.Core.Path.{refl}
 use mathlib.Core.Bool.{true}
 use Prim.Native.Nat.{◌-◌}
-use native.Mathlib.Omega.{arith}
-use borrow.Author.Rules.{rules}
 use lib.ListN.{get_or}
-use Rattle.finite.proofs.SumLoop.{Summing, summing_start, summing_in, summing_end}
+use Rattle.finite.proofs.SumLoop.{Summing}
 use Rattle.subgradient.specs.Subgradient.{heaviest}
 use Rattle.capacity_bound.proofs.sum_of.Given as goal
 

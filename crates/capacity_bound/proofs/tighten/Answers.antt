@@ -1,7 +1,6 @@
 -- The bound of an earlier processor that can take just what p can, or by packing.
 use native.Mathlib.Omega.{arith}
 use borrow.Author.Rules.{rules}
-use borrow.Author.Tests.{ltb-false}
 use Rattle.capacity_bound.proofs.Weighted.{lower_is}
 use Rattle.capacity_bound.proofs.Tightening.{tight_like}
 use Rattle.capacity_bound.proofs.tighten.Goals as goal

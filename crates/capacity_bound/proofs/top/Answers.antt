@@ -1,5 +1,4 @@
 -- `top` meets its contract. Assumes nothing.
-use borrow.Author.Rules.{rules}
 use Rattle.capacity_bound.proofs.Weighted.{lower_is, weight_among, top_all, top_room}
 use Rattle.capacity_bound.proofs.top.Goals as goal
 

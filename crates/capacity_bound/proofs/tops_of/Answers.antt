@@ -1,10 +1,9 @@
 -- `tops_of` meets its contract. Assumes nothing.
-use mathlib.Core.Path.{◌≡◌, refl}
-use Prim.Native.Nat.{◌-◌, ◌≤◌}
+use mathlib.Core.Path.{refl}
+use Prim.Native.Nat.{◌-◌}
 use native.Mathlib.Omega.{arith}
-use borrow.Author.Rules.{rules}
-use lib.ListN.{length, length-set}
-use Rattle.capacity_bound.proofs.Weighted.{Topping, topping_start, topping_next}
+use lib.ListN.{length-set}
+use Rattle.capacity_bound.proofs.Weighted.{topping_start, topping_next}
 use Rattle.capacity_bound.proofs.tops_of.Goals as goal
 
 pub loop-p-init : goal.loop-p-init

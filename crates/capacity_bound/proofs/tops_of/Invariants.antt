@@ -1,10 +1,8 @@
 -- `tops_of` meets its contract. Assumes nothing.
-use mathlib.Core.Path.{◌≡◌, refl}
+use mathlib.Core.Path.{◌≡◌}
 use Prim.Native.Nat.{◌-◌, ◌≤◌}
-use native.Mathlib.Omega.{arith}
-use borrow.Author.Rules.{rules}
-use lib.ListN.{length, length-set}
-use Rattle.capacity_bound.proofs.Weighted.{Topping, topping_start, topping_next}
+use lib.ListN.{length}
+use Rattle.capacity_bound.proofs.Weighted.{Topping}
 use Rattle.capacity_bound.proofs.tops_of.Given as goal
 
 abbrev pub invariant-loop-p : goal.invariant-loop-p

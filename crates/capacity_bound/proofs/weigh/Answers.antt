@@ -1,18 +1,14 @@
 -- The processors' bounds are made tighter one after the other; their sum is known at each step.
-use mathlib.Core.Path.{◌≡◌, refl, ◌∙◌}
-use Prim.Native.Nat.{◌-◌, ◌*◌, ◌≤◌}
+use mathlib.Core.Path.{refl, ◌∙◌}
+use Prim.Native.Nat.{◌-◌}
 use native.Mathlib.Omega.{arith}
 use borrow.Author.Rules.{rules}
-use lib.ListN.{length, get_or, length-set}
-use Rattle.finite.specs.Finite.{sum_to}
+use lib.ListN.{get_or, length-set}
 use Rattle.finite.proofs.Only.{sum_bound}
-use Rattle.region.specs.Given.{Gives}
 use Rattle.candidates.proofs.Choosing.{below_more, open_below, eligible_below}
-use Rattle.bound_cache.specs.BoundCache.{LearntOf}
 use Rattle.subgradient.specs.Subgradient.{heaviest}
-use Rattle.capacity_bound.specs.CapacityBound.{packing_fuel, Weighable}
 use Rattle.capacity_bound.proofs.Weighted.{weight_among}
-use Rattle.capacity_bound.proofs.Tightening.{tops_start, Tightening, tightening_start, tightening_topped, tightening_next, tightening_end}
+use Rattle.capacity_bound.proofs.Tightening.{tops_start, tightening_start, tightening_topped, tightening_next, tightening_end}
 use Rattle.capacity_bound.proofs.weigh.Goals as goal
 
 pub total-need-requires : goal.total-need-requires

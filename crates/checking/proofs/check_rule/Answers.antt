@@ -4,9 +4,8 @@ use Prim.Native.Nat.{◌-◌, ◌<◌}
 use native.Mathlib.Omega.{arith}
 use borrow.Author.Rules.{rules}
 use borrow.Author.Tests.{lt-ltb, le-ltb}
-use Rattle.finite.proofs.Search.{Searched, search_start, search_next, search_found, search_missed}
-use Rattle.rules.specs.Rules.{concerned, broken, check_rule}
-use Rattle.rules.specs.Sets.{standing, missed}
+use Rattle.finite.proofs.Search.{search_start, search_next, search_found, search_missed}
+use Rattle.rules.specs.Rules.{concerned, check_rule}
 use Rattle.checking.proofs.check_rule.Lts as lts
 use Rattle.checking.proofs.check_rule.Reads as reads
 use Rattle.checking.proofs.check_rule.Tie as tie

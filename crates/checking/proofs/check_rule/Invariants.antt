@@ -1,11 +1,7 @@
 -- `check_rule` meets its contract. Assumes nothing.
-use mathlib.Core.Path.{sym, ◌∙◌}
-use Prim.Native.Nat.{◌-◌, ◌<◌}
-use native.Mathlib.Omega.{arith}
-use borrow.Author.Rules.{rules}
-use borrow.Author.Tests.{lt-ltb, le-ltb}
-use Rattle.finite.proofs.Search.{Searched, search_start, search_next, search_found, search_missed}
-use Rattle.rules.specs.Rules.{concerned, broken, check_rule}
+use Prim.Native.Nat.{◌-◌}
+use Rattle.finite.proofs.Search.{Searched}
+use Rattle.rules.specs.Rules.{concerned, broken}
 use Rattle.rules.specs.Sets.{standing, missed}
 use Rattle.checking.proofs.check_rule.Given as goal
 

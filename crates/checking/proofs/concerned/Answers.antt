@@ -1,5 +1,4 @@
 -- `concerned` meets its contract. Assumes nothing.
-use borrow.Author.Rules.{rules}
 use Rattle.checking.proofs.concerned.Goals as goal
 
 pub returns-in-Residence : goal.returns-in-Residence

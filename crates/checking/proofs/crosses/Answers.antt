@@ -1,7 +1,6 @@
 -- `crosses` meets its contract. Assumes nothing.
 use Prim.Native.Nat.{◌<◌}
 use native.Mathlib.Omega.{arith}
-use borrow.Author.Rules.{rules}
 use lib.ListN.{get_or}
 use Rattle.rules.proofs.Sets.{tasks_apart}
 use Rattle.checking.proofs.crosses.Lts as lts

@@ -1,16 +1,14 @@
 -- `load_of` meets its contract. Assumes nothing.
 use mathlib.Core.Path.{refl, sym, ap, ◌∙◌}
 use mathlib.Core.Logic.{⊎_elim}
-use Prim.Native.Nat.{◌-◌, ◌*◌, ◌/◌, ◌<◌}
+use Prim.Native.Nat.{◌-◌, ◌<◌}
 use native.Mathlib.Nat.{mul-le-mul, mul-le-mul_right}
 use native.Mathlib.Omega.{arith}
-use borrow.Author.Rules.{rules}
-use lib.ListN.{get_or}
 use Rattle.mask.specs.Mask.{has, sum_over}
 use Rattle.load.specs.declared.Load.{Load}
 use Rattle.rules.specs.Sets.{load_of}
 use Rattle.load.proofs.Work.{work_le}
-use Rattle.finite.proofs.SumLoop.{Summing, summing_start, summing_in, summing_out, summing_end}
+use Rattle.finite.proofs.SumLoop.{summing_start, summing_in, summing_out, summing_end}
 use Rattle.checking.proofs.load_of.Lts as lts
 use Rattle.checking.proofs.load_of.Reads as reads
 use Rattle.checking.proofs.load_of.Tie as tie

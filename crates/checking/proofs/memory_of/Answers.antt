@@ -4,10 +4,9 @@ use mathlib.Core.Logic.{⊎_elim}
 use Prim.Native.Nat.{◌-◌}
 use native.Mathlib.Omega.{arith}
 use borrow.Author.Rules.{rules}
-use lib.ListN.{get_or}
 use Rattle.mask.specs.Mask.{has, sum_over}
 use Rattle.rules.specs.Sets.{memory_of}
-use Rattle.finite.proofs.SumLoop.{Summing, summing_start, summing_in, summing_out, summing_end}
+use Rattle.finite.proofs.SumLoop.{summing_start, summing_in, summing_out, summing_end}
 use Rattle.checking.proofs.memory_of.Goals as goal
 
 pub loop-k-init : goal.loop-k-init

@@ -1,13 +1,8 @@
 -- `memory_of` meets its contract. Assumes nothing.
-use mathlib.Core.Path.{sym, ◌∙◌}
-use mathlib.Core.Logic.{⊎_elim}
 use Prim.Native.Nat.{◌-◌}
-use native.Mathlib.Omega.{arith}
-use borrow.Author.Rules.{rules}
 use lib.ListN.{get_or}
-use Rattle.mask.specs.Mask.{has, sum_over}
-use Rattle.rules.specs.Sets.{memory_of}
-use Rattle.finite.proofs.SumLoop.{Summing, summing_start, summing_in, summing_out, summing_end}
+use Rattle.mask.specs.Mask.{has}
+use Rattle.finite.proofs.SumLoop.{Summing}
 use Rattle.checking.proofs.memory_of.Given as goal
 
 abbrev pub invariant-loop-k : goal.invariant-loop-k

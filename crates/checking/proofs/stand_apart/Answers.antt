@@ -1,13 +1,11 @@
 -- `stand_apart` meets its contract. Assumes nothing.
 use mathlib.Core.Path.{sym, ◌∙◌}
 use mathlib.Core.Logic.{⊎_elim}
-use mathlib.Core.Bool.{◌&&◌}
 use Prim.Native.Nat.{◌-◌}
 use borrow.Author.Rules.{rules}
 use borrow.Author.Tests.{eq-eqb, ne_eqb}
-use lib.ListN.{get_or}
-use Rattle.finite.proofs.Search.{Searched, search_start, search_next, some_found, some_missed}
-use Rattle.rules.specs.Placement.{elsewhere, apart}
+use Rattle.finite.proofs.Search.{search_start, search_next, some_found, some_missed}
+use Rattle.rules.specs.Placement.{apart}
 use Rattle.rules.specs.Sets.{meets}
 use Rattle.checking.proofs.stand_apart.Goals as goal
 

@@ -1,13 +1,9 @@
 -- `stand_apart` meets its contract. Assumes nothing.
-use mathlib.Core.Path.{sym, ◌∙◌}
-use mathlib.Core.Logic.{⊎_elim}
 use mathlib.Core.Bool.{◌&&◌}
 use Prim.Native.Nat.{◌-◌}
-use borrow.Author.Rules.{rules}
-use borrow.Author.Tests.{eq-eqb, ne_eqb}
 use lib.ListN.{get_or}
-use Rattle.finite.proofs.Search.{Searched, search_start, search_next, some_found, some_missed}
-use Rattle.rules.specs.Placement.{elsewhere, apart}
+use Rattle.finite.proofs.Search.{Searched}
+use Rattle.rules.specs.Placement.{elsewhere}
 use Rattle.rules.specs.Sets.{meets}
 use Rattle.checking.proofs.stand_apart.Given as goal
 

@@ -2,8 +2,7 @@
 use mathlib.Core.Path.{sym, ◌∙◌}
 use Prim.Native.Nat.{◌-◌}
 use borrow.Author.Rules.{rules}
-use lib.ListN.{get_or}
-use Rattle.finite.proofs.Search.{Searched, search_start, search_next, some_found, some_missed}
+use Rattle.finite.proofs.Search.{search_start, search_next, some_found, some_missed}
 use Rattle.rules.specs.Sets.{two_of}
 use Rattle.checking.proofs.stand_together.Goals as goal
 

@@ -1,11 +1,9 @@
 -- `stands_outside` meets its contract. Assumes nothing.
-use mathlib.Core.Path.{sym, ap, ◌∙◌}
+use mathlib.Core.Path.{sym, ◌∙◌}
 use mathlib.Core.Logic.{⊎_elim}
-use mathlib.Core.Bool.{not, ◌&&◌}
 use Prim.Native.Nat.{◌-◌}
 use borrow.Author.Rules.{rules}
-use lib.ListN.{get_or}
-use Rattle.finite.proofs.Search.{Searched, search_start, search_next, some_found, some_missed}
+use Rattle.finite.proofs.Search.{search_start, search_next, some_found, some_missed}
 use Rattle.mask.specs.Mask.{has}
 use Rattle.rules.specs.Sets.{outside_of}
 use Rattle.checking.proofs.stands_outside.Goals as goal

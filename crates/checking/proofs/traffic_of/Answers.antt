@@ -4,9 +4,8 @@ use mathlib.Core.Logic.{⊎_elim}
 use Prim.Native.Nat.{◌-◌}
 use native.Mathlib.Omega.{arith}
 use borrow.Author.Rules.{rules}
-use Rattle.rules.specs.Rules.{crosses, amount_of, traffic}
-use Rattle.rules.specs.Sets.{standing}
-use Rattle.finite.proofs.SumLoop.{Summing, summing_start, summing_in, summing_out, summing_end}
+use Rattle.rules.specs.Rules.{crosses, traffic}
+use Rattle.finite.proofs.SumLoop.{summing_start, summing_in, summing_out, summing_end}
 use Rattle.checking.proofs.traffic_of.Goals as goal
 
 pub loop-j-init : goal.loop-j-init

@@ -1,12 +1,8 @@
 -- `traffic_of` meets its contract. Assumes nothing.
-use mathlib.Core.Path.{sym, ◌∙◌}
-use mathlib.Core.Logic.{⊎_elim}
 use Prim.Native.Nat.{◌-◌}
-use native.Mathlib.Omega.{arith}
-use borrow.Author.Rules.{rules}
-use Rattle.rules.specs.Rules.{crosses, amount_of, traffic}
+use Rattle.rules.specs.Rules.{crosses, amount_of}
 use Rattle.rules.specs.Sets.{standing}
-use Rattle.finite.proofs.SumLoop.{Summing, summing_start, summing_in, summing_out, summing_end}
+use Rattle.finite.proofs.SumLoop.{Summing}
 use Rattle.checking.proofs.traffic_of.Given as goal
 
 abbrev pub invariant-loop-j : goal.invariant-loop-j

@@ -1,7 +1,6 @@
 -- `cause_number` meets its contract. Assumes nothing.
 use mathlib.Core.Path.{sym, ap}
 use native.Mathlib.Omega.{arith}
-use borrow.Author.Rules.{rules}
 use Rattle.table.specs.Refusal.{cause_number}
 use Rattle.codes.proofs.cause_number.Goals as goal
 

@@ -1,6 +1,5 @@
 -- `finding_number` meets its contract. Assumes nothing.
 use mathlib.Core.Path.{sym, ap}
-use borrow.Author.Rules.{rules}
 use Rattle.conflict.specs.Conflict.{finding_number}
 use Rattle.codes.proofs.finding_number.Goals as goal
 

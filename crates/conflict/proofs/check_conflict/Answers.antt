@@ -1,6 +1,5 @@
 -- `check_conflict` meets its contract. Assumes nothing.
 use mathlib.Core.Path.{sym, ap, ◌∙◌}
-use borrow.Author.Rules.{rules}
 use Rattle.table.specs.declared.Reading.{Reading}
 use Rattle.table.proofs.Sound.{read_sound}
 use Rattle.conflict.proofs.check_conflict.Goals as goal

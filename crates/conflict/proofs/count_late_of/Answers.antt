@@ -1,12 +1,10 @@
 -- `count_late_of` meets its contract: the count is the sum so far. Assumes nothing.
 use mathlib.Core.Path.{◌≡◌, refl}
-use Prim.Native.Nat.{◌-◌, ◌≤◌}
+use Prim.Native.Nat.{◌-◌}
 use native.Mathlib.Omega.{arith}
 use borrow.Author.Rules.{rules}
-use lib.ListN.{length, get_or}
+use lib.ListN.{length}
 use Rattle.finite.specs.Finite.{sum_to}
-use Rattle.schedule.specs.Arrays.{tasks_of}
-use Rattle.conflict.specs.Count.{late_as_number}
 use Rattle.timing.proofs.Limits.{none_below, limits_of}
 use Rattle.conflict.proofs.Counting.{count_more}
 use Rattle.conflict.proofs.count_late_of.Goals as goal

@@ -7,11 +7,10 @@ use lib.Dec.{T}
 use Rattle.mask.specs.Mask.{has}
 use Rattle.mask.proofs.Laws.{remove_subset}
 use Rattle.mask.proofs.Visit.{visit_member, visit_less}
-use Rattle.schedule.specs.Arrays.{tasks_of}
 use Rattle.schedule.proofs.Says.{says_yes, says_no}
 use Rattle.schedule.proofs.TasksOfArrays.{valid_of, constrained_of, task_of, with_subset}
 use Rattle.conflict.proofs.Findings.{needed_if}
-use Rattle.conflict.proofs.ExtractLoop.{Dropping, dropping_start, dropping_keep, dropping_drop, dropping_end}
+use Rattle.conflict.proofs.ExtractLoop.{dropping_start, dropping_keep, dropping_drop, dropping_end}
 use Rattle.conflict.proofs.extract.Lts as lts
 use Rattle.conflict.proofs.extract.Reads as reads
 use Rattle.conflict.proofs.extract.Tie as tie

@@ -1,6 +1,5 @@
 -- By the test.
 use mathlib.Core.Path.{refl}
-use borrow.Author.Rules.{rules}
 use borrow.Author.Tests.{lt-ltb, le-ltb}
 use Rattle.descent.specs.Descent.{compared_of}
 use Rattle.descent.proofs.compared.Goals as goal

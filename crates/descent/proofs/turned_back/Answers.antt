@@ -1,6 +1,5 @@
 -- By the test.
 use mathlib.Core.Path.{refl}
-use borrow.Author.Rules.{rules}
 use borrow.Author.Tests.{lt-ltb, le-ltb}
 use Rattle.descent.specs.Descent.{turned_back_of}
 use Rattle.descent.proofs.turned_back.Goals as goal

@@ -1,13 +1,9 @@
 -- The placements with the task on an earlier processor are settled; the good placement at hand says that one takes it.
 use native.Mathlib.Omega.{arith}
 use borrow.Author.Rules.{rules}
-use mathlib.Core.Path.{◌≡◌, refl, ◌∙◌}
-use Prim.Native.Nat.{ℕ, ◌-◌, ◌≤◌, ◌<◌}
-use lib.ListN.{length}
-use Rattle.region.specs.Given.{Gives}
-use Rattle.bound_cache.specs.BoundCache.{Learnt}
-use Rattle.first.specs.First.{Placing}
-use Rattle.first.proofs.Placing.{step_taken, placing_next, Passing, passing_start, passing_trying, passing_next, taken_good, taken_nogoods, first_whole, first_taken, not_missed}
+use mathlib.Core.Path.{refl, ◌∙◌}
+use Prim.Native.Nat.{◌-◌, ◌<◌}
+use Rattle.first.proofs.Placing.{step_taken, placing_next, passing_start, passing_trying, passing_next, taken_good, taken_nogoods, first_whole, first_taken, not_missed}
 use Rattle.first.proofs.+first.Goals as goal
 
 pub returns-then-k-sizes : goal.returns-then-k-sizes

@@ -1,13 +1,11 @@
 -- The placements with the task on an earlier processor are settled; the good placement at hand says that one takes it.
-use native.Mathlib.Omega.{arith}
-use borrow.Author.Rules.{rules}
-use mathlib.Core.Path.{◌≡◌, refl, ◌∙◌}
-use Prim.Native.Nat.{ℕ, ◌-◌, ◌≤◌, ◌<◌}
+use mathlib.Core.Path.{◌≡◌}
+use Prim.Native.Nat.{◌-◌, ◌≤◌}
 use lib.ListN.{length}
 use Rattle.region.specs.Given.{Gives}
 use Rattle.bound_cache.specs.BoundCache.{Learnt}
 use Rattle.first.specs.First.{Placing}
-use Rattle.first.proofs.Placing.{step_taken, placing_next, Passing, passing_start, passing_trying, passing_next, taken_good, taken_nogoods, first_whole, first_taken, not_missed}
+use Rattle.first.proofs.Placing.{Passing}
 use Rattle.first.proofs.+first.Given as goal
 
 abbrev pub invariant-loop-p : goal.invariant-loop-p

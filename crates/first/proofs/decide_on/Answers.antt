@@ -1,7 +1,6 @@
 -- The task's region is entered with a list without places; where it is closed no good placement has the task there.
 use native.Mathlib.Omega.{arith}
 use mathlib.Core.List.{[], ◌∷◌}
-use borrow.Author.Rules.{rules}
 use borrow.Author.Tests.{not-true, not-false}
 use Rattle.nogoods.proofs.Covers.{known_forgot}
 use Rattle.restarts.proofs.Answering.{ready_stands}

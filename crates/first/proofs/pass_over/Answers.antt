@@ -1,5 +1,4 @@
 -- The task's region is entered, which lists a conflict where it is closed; otherwise its conflicts are listed.
-use borrow.Author.Rules.{rules}
 use borrow.Author.Tests.{not-true, not-false}
 use Rattle.nogoods.proofs.Covers.{known_forgot}
 use Rattle.first.proofs.Entering.{covering_closed, entered_begins, entered_none, covering_open}

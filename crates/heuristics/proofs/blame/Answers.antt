@@ -1,7 +1,6 @@
 -- One number is written.
 use mathlib.Core.Path.{ap}
 use Prim.Native.Nat.{ℕ}
-use borrow.Author.Rules.{rules}
 use Rattle.heuristics.specs.Heuristics.{failures, with}
 use Rattle.heuristics.proofs.blame.Goals as goal
 

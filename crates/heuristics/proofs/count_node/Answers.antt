@@ -1,7 +1,6 @@
 -- One number is written.
 use mathlib.Core.Path.{ap}
 use Prim.Native.Nat.{ℕ}
-use borrow.Author.Rules.{rules}
 use Rattle.heuristics.specs.Heuristics.{numbers, nodes, with}
 use Rattle.heuristics.proofs.count_node.Goals as goal
 

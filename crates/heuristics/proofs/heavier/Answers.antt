@@ -2,7 +2,6 @@
 use mathlib.Core.Path.{refl}
 use native.Mathlib.Omega.{arith}
 use borrow.Author.Tests.{le-leb, lt-leb}
-use borrow.Author.Rules.{rules}
 use Rattle.heuristics.proofs.heavier.Goals as goal
 
 pub returns-then-weight-ge4000000000 : goal.returns-then-weight-ge4000000000

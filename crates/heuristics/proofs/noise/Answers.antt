@@ -1,6 +1,5 @@
 -- The state moves on, and its high bits are the number.
 use mathlib.Core.Path.{refl}
-use borrow.Author.Rules.{rules}
 use Rattle.heuristics.proofs.noise.Goals as goal
 
 pub returns : goal.returns

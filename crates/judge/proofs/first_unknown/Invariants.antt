@@ -1,13 +1,8 @@
 -- `first_unknown` meets its contract. Assumes nothing.
-use mathlib.Core.Path.{sym, ◌∙◌}
 use Prim.Native.Nat.{◌-◌}
-use native.Mathlib.Omega.{arith}
-use borrow.Author.Rules.{rules}
-use borrow.Author.Tests.{le-leb, lt-leb}
 use lib.Dec.{leb}
 use lib.ListN.{length, get_or}
-use Rattle.finite.proofs.Search.{Searched, search_start, search_next, search_found, search_missed}
-use Rattle.judge.specs.Judge.{first_unknown}
+use Rattle.finite.proofs.Search.{Searched}
 use Rattle.judge.proofs.first_unknown.Given as goal
 
 abbrev pub invariant-loop-k : goal.invariant-loop-k

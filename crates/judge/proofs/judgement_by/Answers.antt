@@ -1,5 +1,4 @@
 -- `judgement_by` meets its contract. Assumes nothing.
-use borrow.Author.Rules.{rules}
 use Rattle.judge.proofs.judgement_by.Goals as goal
 
 pub returns-in-Broken : goal.returns-in-Broken

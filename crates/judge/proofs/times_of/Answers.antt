@@ -4,12 +4,11 @@ use mathlib.Core.List.{List}
 use Prim.Native.Nat.{ℕ, ◌-◌}
 use native.Mathlib.Omega.{arith}
 use borrow.Author.Rules.{rules}
-use Rattle.finite.proofs.Filling.{Filled, filled_start, filled_next, filled_end}
+use Rattle.finite.proofs.Filling.{filled_start, filled_next, filled_end}
 use Rattle.table.proofs.Filling as filling
-use Rattle.schedule.specs.Arrays.{tasks_of}
 use Rattle.judge.specs.declared.TaskMargin.{TaskMargin}
 use Rattle.judge.specs.declared.TaskTimes.{TaskTimes}
-use Rattle.judge.specs.Judge.{response_of, responses_of, known_zero, margin_at, margins_of}
+use Rattle.judge.specs.Judge.{responses_of, margins_of}
 use Rattle.judge.proofs.Limits.{placed_of}
 use Rattle.judge.proofs.times_of.Goals as goal
 

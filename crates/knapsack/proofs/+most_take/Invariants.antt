@@ -1,22 +1,12 @@
 -- The candidates are tried one after the other; what holds of the sets with a candidate follows from the call one deeper.
-use mathlib.Core.Path.{◌≡◌, refl, sym, ◌∙◌}
-use mathlib.Core.Logic.{◌⊎◌, inl, inr, ⊎_elim}
-use mathlib.Core.Bool.{Bool, true}
-use Prim.Native.Nat.{ℕ, ◌+◌, ◌*◌, ◌-◌, ◌≤◌, ◌<◌}
-use native.Mathlib.Omega.{arith}
-use borrow.Author.Rules.{rules}
-use borrow.Author.Tests.{ltb-true, ltb-false, not-true, not-false}
-use lib.Dec.{T}
+use mathlib.Core.Path.{◌≡◌}
+use Prim.Native.Nat.{◌+◌, ◌*◌, ◌-◌, ◌≤◌}
 use lib.ListN.{length}
 use Rattle.schedule.specs.Arrays.{tasks_of}
-use Rattle.schedule.proofs.TasksOfArrays.{with_set}
 use Rattle.rows.specs.Rows.{memory_row, exclusion_row, load_row}
 use Rattle.nogoods.specs.Nogoods.{KnownSets}
-use Rattle.mask.proofs.Laws.{insert_below}
-use Rattle.knapsack.specs.declared.Pack.{Pack}
 use Rattle.knapsack.specs.Knapsack.{Packs}
-use Rattle.knapsack.proofs.Taking.{room_memory, room_load}
-use Rattle.knapsack.proofs.Packing.{taken_refused, taken_bad, taken_packs, taken_on, Same, begun_packs, begun_packed, Packing, packing_start, packing_packs, packing_task, packing_reach, packing_next, packing_end}
+use Rattle.knapsack.proofs.Packing.{Same, Packing}
 use Rattle.knapsack.proofs.+most_take.Given as goal
 
 abbrev pub invariant-most-loop-left : goal.invariant-most-loop-left

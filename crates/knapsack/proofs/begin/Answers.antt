@@ -3,7 +3,6 @@ use mathlib.Core.Path.{◌≡◌, refl}
 use mathlib.Core.Logic.{◌⊎◌, inl, inr, ⊎_elim}
 use Prim.Native.Nat.{ℕ, ◌-◌, ◌≤◌, ◌<◌}
 use native.Mathlib.Omega.{arith}
-use borrow.Author.Rules.{rules}
 use Rattle.knapsack.specs.declared.Pack.{Pack}
 use Rattle.knapsack.specs.Knapsack.{Begun}
 use Rattle.knapsack.proofs.begin.Goals as goal

@@ -1,5 +1,4 @@
 -- A word with the set tells whether it is late; the word written in its place does so too.
-use borrow.Author.Rules.{rules}
 use native.Mathlib.Omega.{arith}
 use Rattle.late_cache.proofs.Laws.{small_set, bool_small, late_cache_hit, late_cache_set, noted_hit, noted_miss}
 use Rattle.late_cache.proofs.is_late.Goals as goal

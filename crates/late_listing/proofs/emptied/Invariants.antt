@@ -1,14 +1,9 @@
 -- Processor by processor: what is left, and what the tasks on it took.
-use mathlib.Core.Path.{◌≡◌, refl, ap}
-use Prim.Native.Nat.{ℕ, ◌+◌, ◌-◌, ◌≤◌}
-use native.Mathlib.Omega.{arith}
-use borrow.Author.Rules.{rules}
-use lib.ListN.{get_or}
+use mathlib.Core.Path.{◌≡◌}
+use Prim.Native.Nat.{◌-◌, ◌≤◌}
 use Rattle.table.specs.Table.{column}
-use Rattle.table.proofs.FilledUp.{column_start, column_next}
 use Rattle.rows.specs.Rows.{memory_row, load_row}
-use Rattle.late_listing.specs.LateListing.{whole_of, emptied_of}
-use Rattle.late_listing.proofs.Emptying.{few_on, small_memory, small_load}
+use Rattle.late_listing.specs.LateListing.{whole_of}
 use Rattle.late_listing.proofs.emptied.Given as goal
 
 abbrev pub invariant-loop-p : goal.invariant-loop-p

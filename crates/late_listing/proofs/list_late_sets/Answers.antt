@@ -2,7 +2,6 @@
 use mathlib.Core.Path.{refl, ◌∙◌}
 use mathlib.Core.Logic.{inl, inr, ⊎_elim}
 use native.Mathlib.Omega.{arith}
-use borrow.Author.Rules.{rules}
 use Rattle.late_sets.proofs.Recursion.{covers_none}
 use Rattle.late_listing.proofs.list_late_sets.Goals as goal
 

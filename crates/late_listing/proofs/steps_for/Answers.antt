@@ -1,7 +1,6 @@
 -- By the test.
 use mathlib.Core.Path.{refl}
 use native.Mathlib.Omega.{arith}
-use borrow.Author.Rules.{rules}
 use borrow.Author.Tests.{le-leb, lt-leb}
 use Rattle.late_listing.proofs.steps_for.Goals as goal
 

@@ -1,6 +1,5 @@
 -- By the tests.
 use mathlib.Core.Path.{refl}
-use borrow.Author.Rules.{rules}
 use borrow.Author.Tests.{eq-eqb, ne_eqb}
 use Rattle.late_listing.proofs.worth_a_try.Goals as goal
 

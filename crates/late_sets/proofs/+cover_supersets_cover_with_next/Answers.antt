@@ -1,5 +1,5 @@
 -- The sets with the next task, then those without it; a set that is late ends the recursion, and so does one that can stand nowhere.
-use Prim.Native.Nat.{ℕ, ◌+◌, ◌*◌, ◌-◌, ◌<◌}
+use Prim.Native.Nat.{◌-◌}
 use native.Mathlib.Omega.{arith}
 use borrow.Author.Rules.{rules}
 use borrow.Author.Tests.{not-true, not-false}

@@ -1,7 +1,6 @@
 -- `count_of` meets its contract. Assumes nothing.
 use mathlib.Core.Path.{ap}
 use native.Mathlib.Omega.{arith}
-use borrow.Author.Rules.{rules}
 use Rattle.layout.specs.declared.Shape.{Shape}
 use Rattle.layout.proofs.EachKind.{order_below}
 use Rattle.layout.proofs.count_of.Goals as goal

@@ -1,7 +1,6 @@
 -- `place_of` meets its contract. Assumes nothing.
 use mathlib.Core.Path.{◌∙◌}
 use native.Mathlib.Omega.{arith}
-use borrow.Author.Rules.{rules}
 use Rattle.layout.proofs.Places.{place_most}
 use Rattle.layout.proofs.place_of.Goals as goal
 

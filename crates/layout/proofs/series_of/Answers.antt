@@ -1,6 +1,5 @@
 -- `series_of` meets its contract. Assumes nothing.
 use mathlib.Core.Path.{ap}
-use borrow.Author.Rules.{rules}
 use Rattle.layout.specs.declared.Shape.{Shape}
 use Rattle.layout.proofs.series_of.Goals as goal
 

@@ -1,6 +1,5 @@
 -- `shape_of` meets its contract. Assumes nothing.
 use mathlib.Core.Path.{sym, ap, ◌∙◌}
-use borrow.Author.Rules.{rules}
 use Rattle.layout.specs.Format.{shape_of}
 use Rattle.layout.proofs.shape_of.Goals as goal
 

@@ -1,9 +1,6 @@
 -- `gcd` meets its contract: whatever is the greatest common divisor of the pair in hand is that of a and b. Assumes nothing.
-use Prim.Native.Nat.{ℕ}
 use native.Mathlib.Nat.{mod-lt}
 use native.Mathlib.Omega.{arith}
-use borrow.Author.Rules.{rules}
-use Rattle.lcm.specs.Lcm.{Gcd}
 use Rattle.lcm.proofs.Euclid.{gcd_step, gcd_zero}
 use Rattle.lcm.proofs.gcd.Goals as goal
 

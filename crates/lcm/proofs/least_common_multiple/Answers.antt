@@ -2,7 +2,6 @@
 use Prim.Native.Nat.{ℕ, ◌*◌, ◌/◌, ◌≤◌}
 use native.Mathlib.Nat.{div-le_self, le_trans, mul-le-mul, pos_of_dvd_of_pos}
 use native.Mathlib.Omega.{arith}
-use borrow.Author.Rules.{rules}
 use Rattle.lcm.proofs.Laws.{lcm_gcd}
 use Rattle.lcm.proofs.least_common_multiple.Goals as goal
 

@@ -1,10 +1,7 @@
 -- `conflict_line` meets its contract: behind the word stand the members below k.
 use mathlib.Core.Path.{◌≡◌, refl, ◌∙◌}
-use Prim.Native.Nat.{◌+◌, ◌-◌, ◌*◌, ◌≤◌}
 use native.Mathlib.Omega.{arith}
 use borrow.Author.Rules.{rules}
-use lib.ListN.{length}
-use Rattle.wire.specs.Wire.{Put, pieces}
 use Rattle.wire.proofs.Put.{put_then}
 use Rattle.text.proofs.Laws.{put_none, put_more}
 use Rattle.lines.specs.Lines.{member}

@@ -1,6 +1,5 @@
 -- `pair_line` meets its contract: two items and LF.
 use native.Mathlib.Omega.{arith}
-use borrow.Author.Rules.{rules}
 use Rattle.wire.proofs.Put.{put_then}
 use Rattle.lines.proofs.pair_line.Goals as goal
 

@@ -1,6 +1,5 @@
 -- `put_item` meets its contract.
 use native.Mathlib.Omega.{arith}
-use borrow.Author.Rules.{rules}
 use Rattle.wire.proofs.Put.{put_then}
 use Rattle.text.proofs.Laws.{put_few}
 use Rattle.lines.proofs.put_item.Goals as goal

@@ -1,6 +1,5 @@
 -- `put_margin` meets its contract, by whether the margin is known; its number is read from its bits.
 use native.Mathlib.Omega.{arith}
-use borrow.Author.Rules.{rules}
 use mir.Syntax.{w32}
 use mir.Val.{to_z, of_z}
 use mir.ValLaws.{to_z-of_z}

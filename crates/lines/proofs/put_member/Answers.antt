@@ -1,6 +1,5 @@
 -- `put_member` meets its contract: a task is below 32, so that it has two digits at most.
 use native.Mathlib.Omega.{arith}
-use borrow.Author.Rules.{rules}
 use Rattle.wire.proofs.Put.{put_nothing}
 use Rattle.text.proofs.Laws.{decimal_two}
 use Rattle.lines.proofs.Laws.{member_is}

@@ -2,7 +2,6 @@
 use mathlib.Core.List.{List, ◌++◌}
 use Prim.Native.Nat.{ℕ, ◌+◌, ◌≤◌}
 use native.Mathlib.Omega.{arith}
-use borrow.Author.Rules.{rules}
 use Rattle.wire.specs.Wire.{Put}
 use Rattle.wire.proofs.Put.{put_then, put_length}
 use Rattle.text.specs.Text.{ascii}

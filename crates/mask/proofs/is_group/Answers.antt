@@ -1,6 +1,5 @@
 -- Both tests hold, one after the other.
 use mathlib.Core.Path.{sym, ◌∙◌}
-use borrow.Author.Rules.{rules}
 use Rattle.mask.proofs.is_group.Goals as goal
 
 pub returns-then-only_below : goal.returns-then-only_below

@@ -1,5 +1,4 @@
 -- Nothing is left above digit n exactly if the mask is below 2 ^ n.
-use borrow.Author.Rules.{rules}
 use Rattle.mask.proofs.Laws.{none_above}
 use Rattle.mask.proofs.only_below.Goals as goal
 

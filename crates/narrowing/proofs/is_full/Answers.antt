@@ -1,6 +1,5 @@
 -- By the tests.
 use mathlib.Core.Path.{refl}
-use borrow.Author.Rules.{rules}
 use borrow.Author.Tests.{not-true, not-false}
 use Rattle.narrowing.proofs.is_full.Goals as goal
 

@@ -2,7 +2,6 @@
 use mathlib.Core.Path.{refl, sym, ap, ◌∙◌}
 use mathlib.Core.Bool.{not}
 use native.Mathlib.Omega.{arith}
-use borrow.Author.Tests.{not-true, not-false}
 use Rattle.partial.proofs.Deciding.{free_at}
 use Rattle.region.proofs.Lending.{limits_with}
 use Rattle.narrowing.proofs.may_stand.Goals as goal

@@ -4,15 +4,12 @@ use mathlib.Core.Logic.{⊎_elim}
 use Prim.Native.Nat.{◌<◌}
 use native.Mathlib.Omega.{arith}
 use borrow.Author.Rules.{rules}
-use borrow.Author.Tests.{not-true, not-false}
 use lib.Dec.{T}
 use Rattle.mask.specs.Mask.{has}
-use Rattle.mask.proofs.Visit.{Visit, visit_start, visit_member, visit_less, visit_next}
-use Rattle.schedule.specs.Arrays.{tasks_of}
-use Rattle.nogoods.specs.Nogoods.{KnownSets}
+use Rattle.mask.proofs.Visit.{visit_start, visit_member, visit_less, visit_next}
 use Rattle.partial.proofs.Deciding.{free_at}
 use Rattle.narrowing.specs.Narrowing.{may_stand, narrow_of}
-use Rattle.narrowing.proofs.Filtering.{Filtering, filtering_start, filtering_keep, filtering_drop, filtering_end}
+use Rattle.narrowing.proofs.Filtering.{filtering_start, filtering_keep, filtering_drop, filtering_end}
 use Rattle.narrowing.proofs.narrow.Lts as lts
 use Rattle.narrowing.proofs.narrow.Reads as reads
 use Rattle.narrowing.proofs.narrow.Tie as tie

@@ -1,18 +1,9 @@
 -- The tasks of the set are looked at one after the other; those that may not stand are taken out.
-use mathlib.Core.Path.{sym, ◌∙◌}
-use mathlib.Core.Logic.{⊎_elim}
-use Prim.Native.Nat.{◌<◌}
-use native.Mathlib.Omega.{arith}
-use borrow.Author.Rules.{rules}
-use borrow.Author.Tests.{not-true, not-false}
-use lib.Dec.{T}
-use Rattle.mask.specs.Mask.{has}
-use Rattle.mask.proofs.Visit.{Visit, visit_start, visit_member, visit_less, visit_next}
+use Rattle.mask.proofs.Visit.{Visit}
 use Rattle.schedule.specs.Arrays.{tasks_of}
 use Rattle.nogoods.specs.Nogoods.{KnownSets}
-use Rattle.partial.proofs.Deciding.{free_at}
-use Rattle.narrowing.specs.Narrowing.{may_stand, narrow_of}
-use Rattle.narrowing.proofs.Filtering.{Filtering, filtering_start, filtering_keep, filtering_drop, filtering_end}
+use Rattle.narrowing.specs.Narrowing.{may_stand}
+use Rattle.narrowing.proofs.Filtering.{Filtering}
 use Rattle.narrowing.proofs.narrow.Given as goal
 
 abbrev pub invariant-loop-rest : goal.invariant-loop-rest

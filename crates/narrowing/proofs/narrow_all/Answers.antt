@@ -1,9 +1,8 @@
 -- The processors are looked at one after the other.
 use mathlib.Core.Path.{◌≡◌, refl, sym, ◌∙◌}
-use mathlib.Core.Bool.{cond}
 use mathlib.Core.Logic.{⊎_elim}
 use mathlib.Core.List.{List}
-use Prim.Native.Nat.{ℕ, ◌-◌, ◌≤◌, ◌<◌}
+use Prim.Native.Nat.{ℕ, ◌-◌}
 use native.Mathlib.Omega.{arith}
 use lib.Bits.{bit_and}
 use lib.ListN.{get_or}
@@ -12,10 +11,7 @@ use Rattle.mask.proofs.Tests.{and_right}
 use Rattle.mask.proofs.Laws.{has_and}
 use Rattle.table.specs.Table.{column}
 use Rattle.table.proofs.FilledUp.{column_start, column_next}
-use Rattle.schedule.specs.Arrays.{tasks_of}
-use Rattle.nogoods.specs.Nogoods.{KnownSets}
-use Rattle.partial.specs.Partial.{site_of}
-use Rattle.narrowing.specs.Narrowing.{narrow_of, may_of}
+use Rattle.narrowing.specs.Narrowing.{may_of}
 use Rattle.narrowing.proofs.narrow_all.Goals as goal
 
 open_part : (a left : ℕ) → Subset (bit_and a left) left

@@ -1,21 +1,15 @@
 -- The processors are looked at one after the other.
-use mathlib.Core.Path.{◌≡◌, refl, sym, ◌∙◌}
+use mathlib.Core.Path.{◌≡◌}
 use mathlib.Core.Bool.{cond}
-use mathlib.Core.Logic.{⊎_elim}
-use mathlib.Core.List.{List}
-use Prim.Native.Nat.{ℕ, ◌-◌, ◌≤◌, ◌<◌}
-use native.Mathlib.Omega.{arith}
+use Prim.Native.Nat.{◌-◌, ◌≤◌}
 use lib.Bits.{bit_and}
 use lib.ListN.{get_or}
-use Rattle.mask.specs.Mask.{has, Subset}
-use Rattle.mask.proofs.Tests.{and_right}
-use Rattle.mask.proofs.Laws.{has_and}
+use Rattle.mask.specs.Mask.{has}
 use Rattle.table.specs.Table.{column}
-use Rattle.table.proofs.FilledUp.{column_start, column_next}
 use Rattle.schedule.specs.Arrays.{tasks_of}
 use Rattle.nogoods.specs.Nogoods.{KnownSets}
 use Rattle.partial.specs.Partial.{site_of}
-use Rattle.narrowing.specs.Narrowing.{narrow_of, may_of}
+use Rattle.narrowing.specs.Narrowing.{narrow_of}
 use Rattle.narrowing.proofs.narrow_all.Given as goal
 
 abbrev pub invariant-loop-p : goal.invariant-loop-p

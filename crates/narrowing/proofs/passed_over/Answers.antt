@@ -1,6 +1,5 @@
 -- Either test answers by its definition, and what is known stays true.
 use native.Mathlib.Omega.{arith}
-use borrow.Author.Rules.{rules}
 use Rattle.conflict.proofs.Counting.{late_is}
 use Rattle.late_cache.proofs.Laws.{small_set}
 use Rattle.nogoods.proofs.Covers.{known_verdict, known_looked}

@@ -3,10 +3,9 @@ use mathlib.Core.Path.{◌≡◌, refl, sym, ◌∙◌}
 use mathlib.Core.Logic.{⊎_elim}
 use mathlib.Core.Bool.{Bool, true, false, ◌&&◌}
 use Prim.Native.Nat.{ℕ, ◌-◌}
-use borrow.Author.Rules.{rules}
 use lib.Bits.{bit_or}
 use lib.ListN.{get_or}
-use Rattle.finite.proofs.Search.{Searched, search_start, search_next, some_found, some_missed}
+use Rattle.finite.proofs.Search.{search_start, search_next, some_found, some_missed}
 use Rattle.mask.specs.Mask.{has}
 use Rattle.mask.proofs.Laws.{has_or}
 use Rattle.knapsack.specs.Knapsack.{joined}

@@ -1,14 +1,8 @@
 -- `can_meet` meets its contract. Assumes nothing.
-use mathlib.Core.Path.{◌≡◌, refl, sym, ◌∙◌}
-use mathlib.Core.Logic.{⊎_elim}
-use mathlib.Core.Bool.{Bool, true, false, ◌&&◌}
-use Prim.Native.Nat.{ℕ, ◌-◌}
-use borrow.Author.Rules.{rules}
-use lib.Bits.{bit_or}
+use mathlib.Core.Bool.{◌&&◌}
+use Prim.Native.Nat.{◌-◌}
 use lib.ListN.{get_or}
-use Rattle.finite.proofs.Search.{Searched, search_start, search_next, some_found, some_missed}
-use Rattle.mask.specs.Mask.{has}
-use Rattle.mask.proofs.Laws.{has_or}
+use Rattle.finite.proofs.Search.{Searched}
 use Rattle.knapsack.specs.Knapsack.{joined}
 use Rattle.network_bound.proofs.can_meet.Given as goal
 

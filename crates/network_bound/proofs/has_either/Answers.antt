@@ -1,6 +1,5 @@
 -- `has_either` meets its contract. Assumes nothing.
 use mathlib.Core.Path.{sym, ◌∙◌}
-use borrow.Author.Rules.{rules}
 use Rattle.network_bound.proofs.has_either.Goals as goal
 
 pub returns-then-has : goal.returns-then-has

@@ -1,8 +1,6 @@
 -- `must_cross` meets its contract. Assumes nothing.
 use mathlib.Core.Path.{◌≡◌, refl, sym, ◌∙◌}
 use mathlib.Core.Bool.{Bool, true, false, not, ◌&&◌, ◌||◌}
-use borrow.Author.Rules.{rules}
-use borrow.Author.Tests.{not-true, not-false}
 use Rattle.network_bound.proofs.must_cross.Goals as goal
 
 -- by the first test, by the second, by the last

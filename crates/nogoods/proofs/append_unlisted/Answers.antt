@@ -1,6 +1,5 @@
 -- The list stays as it is where `listed` says so; else the conflict is appended.
 use mathlib.Core.Path.{◌≡◌, refl, sym, ◌∙◌}
-use borrow.Author.Rules.{rules}
 use Rattle.answer.specs.Answer.{is_listed}
 use Rattle.nogoods.proofs.append_unlisted.Lts as lts
 use Rattle.nogoods.proofs.append_unlisted.Reads as reads

@@ -1,7 +1,5 @@
 -- With a full list the table answers, else a look at the list.
 use mathlib.Core.Path.{sym, ◌∙◌}
-use borrow.Author.Rules.{rules}
-use borrow.Author.Tests.{not-true, not-false}
 use Rattle.nogoods.proofs.covered.Goals as goal
 
 pub returns-then-not-is_full : goal.returns-then-not-is_full

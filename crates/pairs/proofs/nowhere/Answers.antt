@@ -1,7 +1,7 @@
 -- The processors are tried one by one.
 use Prim.Native.Nat.{◌-◌}
 use borrow.Author.Rules.{rules}
-use Rattle.finite.proofs.Search.{Searched, search_start, search_next, some_found, some_missed}
+use Rattle.finite.proofs.Search.{search_start, search_next, some_found, some_missed}
 use Rattle.pairs.specs.Pairs.{takes_both, nowhere}
 use Rattle.pairs.proofs.nowhere.Goals as goal
 

@@ -4,7 +4,7 @@ use mathlib.Core.Path.{refl}
 use Prim.Native.Nat.{◌-◌}
 use native.Mathlib.Omega.{arith}
 use borrow.Author.Rules.{rules}
-use Rattle.finite.proofs.SumLoop.{Summing, summing_start, summing_in, summing_out, summing_end}
+use Rattle.finite.proofs.SumLoop.{summing_start, summing_in, summing_out, summing_end}
 use Rattle.pairs.specs.Pairs.{apart, strangers_of}
 use Rattle.pairs.proofs.strangers.Goals as goal
 

@@ -2,7 +2,6 @@
 use mathlib.Core.Path.{ap}
 use mathlib.Core.Bool.{Bool, true, false}
 use Prim.Native.Nat.{ℕ}
-use borrow.Author.Rules.{rules}
 use Rattle.schedule.specs.Arrays.{Says}
 use Rattle.table.specs.declared.Table.{Table}
 use Rattle.rules.specs.Placement.{and_task}

@@ -2,8 +2,6 @@
 use mathlib.Core.Path.{sym, ◌∙◌}
 use Prim.Native.Nat.{◌<◌}
 use native.Mathlib.Omega.{arith}
-use borrow.Author.Rules.{rules}
-use borrow.Author.Tests.{not-true, not-false}
 use Rattle.partial.proofs.MaskSets.{meets_if, meets_not}
 use Rattle.partial.proofs.Deciding.{free_at, bounds}
 use Rattle.partial.proofs.Trying.{trial_unsuited, trial_parted, trial_made}

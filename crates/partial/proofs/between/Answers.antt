@@ -2,10 +2,9 @@
 use mathlib.Core.Logic.{⊎_elim}
 use Prim.Native.Nat.{◌-◌}
 use native.Mathlib.Omega.{arith}
-use borrow.Author.Rules.{rules}
 use Rattle.finite.proofs.SumLoop.{summing_start, summing_end}
 use Rattle.partial.specs.Tests.{joins, between}
-use Rattle.partial.proofs.MessageSum.{MessageSum, message_fits, message_next}
+use Rattle.partial.proofs.MessageSum.{message_fits, message_next}
 use Rattle.partial.proofs.between.Goals as goal
 
 pub loop-j-init : goal.loop-j-init

@@ -1,11 +1,7 @@
 -- `between` meets its contract. Assumes nothing.
-use mathlib.Core.Logic.{⊎_elim}
 use Prim.Native.Nat.{◌-◌}
-use native.Mathlib.Omega.{arith}
-use borrow.Author.Rules.{rules}
-use Rattle.finite.proofs.SumLoop.{summing_start, summing_end}
-use Rattle.partial.specs.Tests.{joins, between}
-use Rattle.partial.proofs.MessageSum.{MessageSum, message_fits, message_next}
+use Rattle.partial.specs.Tests.{joins}
+use Rattle.partial.proofs.MessageSum.{MessageSum}
 use Rattle.partial.proofs.between.Given as goal
 
 abbrev pub invariant-loop-j : goal.invariant-loop-j

@@ -1,6 +1,5 @@
 -- `follow` meets its contract. Assumes nothing.
 use native.Mathlib.Omega.{arith}
-use borrow.Author.Rules.{rules}
 use borrow.Author.Tests.{not-true, not-false}
 use Rattle.partial.specs.Tests.{Enough}
 use Rattle.partial.proofs.follow.Lts as lts

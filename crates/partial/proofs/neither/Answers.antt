@@ -1,6 +1,5 @@
 -- `neither` meets its contract. Assumes nothing.
 use native.Mathlib.Omega.{arith}
-use borrow.Author.Rules.{rules}
 use lib.Bits.{or_lt}
 use Rattle.partial.proofs.MaskSets.{neither_mask}
 use Rattle.partial.proofs.neither.Goals as goal

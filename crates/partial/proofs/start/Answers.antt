@@ -4,8 +4,6 @@ use Prim.Native.Nat.{ℕ, ◌-◌, ◌*◌, ◌/◌, ◌≤◌}
 use native.Mathlib.Nat.{mul-le-mul}
 use native.Mathlib.Omega.{arith}
 use borrow.Author.Rules.{rules}
-use lib.ListN.{get_or}
-use Rattle.table.specs.Table.{column}
 use Rattle.partial.specs.Start.{start_of}
 use Rattle.table.proofs.FilledUp.{column_start, column_next}
 use Rattle.partial.proofs.start.Goals as goal

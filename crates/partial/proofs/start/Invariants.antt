@@ -1,13 +1,8 @@
 -- `start` meets its contract. Assumes nothing.
-use mathlib.Core.Path.{◌≡◌, refl, ap}
-use Prim.Native.Nat.{ℕ, ◌-◌, ◌*◌, ◌/◌, ◌≤◌}
-use native.Mathlib.Nat.{mul-le-mul}
-use native.Mathlib.Omega.{arith}
-use borrow.Author.Rules.{rules}
+use mathlib.Core.Path.{◌≡◌}
+use Prim.Native.Nat.{◌-◌, ◌*◌, ◌/◌, ◌≤◌}
 use lib.ListN.{get_or}
 use Rattle.table.specs.Table.{column}
-use Rattle.partial.specs.Start.{start_of}
-use Rattle.table.proofs.FilledUp.{column_start, column_next}
 use Rattle.partial.proofs.start.Given as goal
 
 abbrev pub invariant-loop-p : goal.invariant-loop-p

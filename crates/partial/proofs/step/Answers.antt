@@ -2,7 +2,6 @@
 use mathlib.Core.Path.{refl}
 use Prim.Native.Nat.{◌<◌}
 use native.Mathlib.Omega.{arith}
-use borrow.Author.Rules.{rules}
 use Rattle.partial.proofs.Deciding.{bounds, trial_right}
 use Rattle.partial.proofs.NextState.{trial_enough, trial_step}
 use Rattle.partial.proofs.step.Lts as lts

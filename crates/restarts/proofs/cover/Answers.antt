@@ -1,5 +1,4 @@
 -- Where the recursion over the late sets is complete each placement of the region holds a listed conflict; else the replay goes on from its list.
-use borrow.Author.Rules.{rules}
 use Rattle.restarts.proofs.Answering.{opens, covering_late_sets, begins_after, covering_then}
 use Rattle.restarts.proofs.cover.Goals as goal
 

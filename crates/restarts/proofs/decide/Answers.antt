@@ -2,13 +2,10 @@
 use mathlib.Core.Path.{refl, sym, ◌∙◌}
 use mathlib.Core.Bool.{true, false≢true}
 use mathlib.Core.Logic.{⊎_elim}
-use Prim.Native.Nat.{◌-◌, ◌≤◌}
+use Prim.Native.Nat.{◌-◌}
 use native.Mathlib.Omega.{arith}
 use borrow.Author.Rules.{rules}
 use Rattle.nogoods.proofs.Covers.{known_forgot}
-use Rattle.region.specs.Begins.{Prepared}
-use Rattle.region.specs.Given.{Gives}
-use Rattle.bound_cache.specs.BoundCache.{Learnt}
 use Rattle.restarts.proofs.Answering.{ready_prepared, decided_begin, decided}
 use Rattle.restarts.proofs.decide.Goals as goal
 

@@ -1,15 +1,8 @@
 -- What may stand on each processor is worked out once. The fuel grows by half until it is at least 900,000, faster than the number of runs.
-use mathlib.Core.Path.{refl, sym, ◌∙◌}
-use mathlib.Core.Bool.{true, false≢true}
-use mathlib.Core.Logic.{⊎_elim}
 use Prim.Native.Nat.{◌-◌, ◌≤◌}
-use native.Mathlib.Omega.{arith}
-use borrow.Author.Rules.{rules}
-use Rattle.nogoods.proofs.Covers.{known_forgot}
 use Rattle.region.specs.Begins.{Prepared}
 use Rattle.region.specs.Given.{Gives}
 use Rattle.bound_cache.specs.BoundCache.{Learnt}
-use Rattle.restarts.proofs.Answering.{ready_prepared, decided_begin, decided}
 use Rattle.restarts.proofs.decide.Given as goal
 
 abbrev pub invariant-loop-fuel : goal.invariant-loop-fuel

@@ -1,6 +1,5 @@
 -- A placement that was found is one that holds no listed conflict.
 use native.Mathlib.Omega.{arith}
-use borrow.Author.Rules.{rules}
 use Rattle.nogoods.proofs.Covers.{known_forgot}
 use Rattle.bound_cache.proofs.Laws.{learnt_of}
 use Rattle.restarts.proofs.Answering.{begins_listing, covering_begin, covering}

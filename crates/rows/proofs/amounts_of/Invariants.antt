@@ -1,9 +1,7 @@
 -- `amounts_of` meets its contract. Assumes nothing.
 use Prim.Native.Nat.{◌-◌}
-use borrow.Author.Rules.{rules}
-use Rattle.table.proofs.Filling.{Filled, fill_start, fill_put, fill_end}
+use Rattle.table.proofs.Filling.{Filled}
 use Rattle.rules.specs.Rules.{amount_of}
-use Rattle.rows.specs.Rows.{amounts_of}
 use Rattle.rows.proofs.amounts_of.Given as goal
 
 abbrev pub invariant-loop-j : goal.invariant-loop-j

@@ -3,9 +3,8 @@ use mathlib.Core.Path.{sym, ◌∙◌}
 use mathlib.Core.Logic.{⊎_elim}
 use Prim.Native.Nat.{◌-◌, ◌<◌}
 use native.Mathlib.Omega.{arith}
-use borrow.Author.Rules.{rules}
 use borrow.Author.Tests.{lt-ltb, le-ltb}
-use Rattle.rows.proofs.Grouping.{Grouped, grouped_start, grouped_join, grouped_skip, grouped_end}
+use Rattle.rows.proofs.Grouping.{grouped_start, grouped_join, grouped_skip, grouped_end}
 use Rattle.rows.proofs.beside.Lts as lts
 use Rattle.rows.proofs.beside.Reads as reads
 use Rattle.rows.proofs.beside.Tie as tie

@@ -1,11 +1,6 @@
 -- `beside` meets its contract. Assumes nothing.
-use mathlib.Core.Path.{sym, ◌∙◌}
-use mathlib.Core.Logic.{⊎_elim}
-use Prim.Native.Nat.{◌-◌, ◌<◌}
-use native.Mathlib.Omega.{arith}
-use borrow.Author.Rules.{rules}
-use borrow.Author.Tests.{lt-ltb, le-ltb}
-use Rattle.rows.proofs.Grouping.{Grouped, grouped_start, grouped_join, grouped_skip, grouped_end}
+use Prim.Native.Nat.{◌-◌}
+use Rattle.rows.proofs.Grouping.{Grouped}
 use Rattle.rows.proofs.beside.Given as goal
 
 abbrev pub invariant-loop-g : goal.invariant-loop-g

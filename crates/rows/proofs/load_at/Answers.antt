@@ -1,5 +1,4 @@
 -- `load_at` meets its contract. Assumes nothing.
-use borrow.Author.Rules.{rules}
 use borrow.Author.Tests.{lt-ltb, le-ltb}
 use native.Mathlib.Omega.{arith}
 use Rattle.table.proofs.Times.{work_in_period, some_period, some_deadline, deadline_most}

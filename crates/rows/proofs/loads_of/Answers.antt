@@ -1,8 +1,7 @@
 -- `loads_of` meets its contract. Assumes nothing.
-use Prim.Native.Nat.{◌-◌, ◌*◌, ◌/◌}
+use Prim.Native.Nat.{◌-◌}
 use borrow.Author.Rules.{rules}
-use lib.ListN.{get_or}
-use Rattle.table.proofs.Filling.{Filled, fill_start, fill_put, fill_end}
+use Rattle.table.proofs.Filling.{fill_start, fill_put, fill_end}
 use Rattle.rows.specs.Rows.{loads_of}
 use Rattle.rows.proofs.loads_of.Goals as goal
 

@@ -1,5 +1,4 @@
 -- Each row is the definition's.
-use borrow.Author.Rules.{rules}
 use Rattle.rows.proofs.messages_of.Goals as goal
 
 pub widened-sender-requires : goal.widened-sender-requires

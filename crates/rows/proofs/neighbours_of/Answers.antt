@@ -1,8 +1,8 @@
 -- `neighbours_of` meets its contract. Assumes nothing.
 use Prim.Native.Nat.{◌-◌}
 use borrow.Author.Rules.{rules}
-use Rattle.table.proofs.Filling.{Filled, fill_start, fill_put, fill_end}
-use Rattle.rows.specs.Rows.{beside_of, neighbours_of}
+use Rattle.table.proofs.Filling.{fill_start, fill_put, fill_end}
+use Rattle.rows.specs.Rows.{neighbours_of}
 use Rattle.rows.proofs.neighbours_of.Goals as goal
 
 pub loop-k-init : goal.loop-k-init

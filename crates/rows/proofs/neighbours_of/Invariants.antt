@@ -1,8 +1,7 @@
 -- `neighbours_of` meets its contract. Assumes nothing.
 use Prim.Native.Nat.{◌-◌}
-use borrow.Author.Rules.{rules}
-use Rattle.table.proofs.Filling.{Filled, fill_start, fill_put, fill_end}
-use Rattle.rows.specs.Rows.{beside_of, neighbours_of}
+use Rattle.table.proofs.Filling.{Filled}
+use Rattle.rows.specs.Rows.{beside_of}
 use Rattle.rows.proofs.neighbours_of.Given as goal
 
 abbrev pub invariant-loop-k : goal.invariant-loop-k

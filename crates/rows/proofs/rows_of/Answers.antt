@@ -1,5 +1,4 @@
 -- Each row is the definition's.
-use borrow.Author.Rules.{rules}
 use Rattle.rows.proofs.rows_of.Goals as goal
 
 pub neighbours_of-exclusions-requires : goal.neighbours_of-exclusions-requires

@@ -2,11 +2,10 @@
 use mathlib.Core.Path.{◌≡◌, sym, ◌∙◌}
 use Prim.Native.Nat.{◌-◌, ◌<◌}
 use native.Mathlib.Omega.{arith}
-use borrow.Author.Rules.{rules}
 use borrow.Author.Tests.{lt-ltb}
-use lib.ListN.{length, get_or}
+use lib.ListN.{length}
 use lib.Seq.{ext_get_or}
-use Rattle.table.proofs.Filling.{Filled, fill_start, fill_put}
+use Rattle.table.proofs.Filling.{fill_start, fill_put}
 use Rattle.rows.proofs.widened.Goals as goal
 
 pub loop-j-init : goal.loop-j-init

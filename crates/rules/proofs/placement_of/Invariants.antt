@@ -1,10 +1,7 @@
 -- `placement_of` meets its contract. Assumes nothing.
 use mathlib.Core.Path.{◌≡◌}
 use Prim.Native.Nat.{◌-◌, ◌≤◌}
-use native.Mathlib.Omega.{arith}
-use borrow.Author.Rules.{rules}
 use Rattle.rules.specs.Sets.{processors_of}
-use Rattle.table.proofs.FilledUp.{column_start, column_next}
 use Rattle.rules.proofs.placement_of.Given as goal
 
 abbrev pub invariant-loop-k : goal.invariant-loop-k

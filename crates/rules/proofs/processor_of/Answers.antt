@@ -1,9 +1,7 @@
 -- `processor_of` meets its contract. Assumes nothing.
 use mathlib.Core.Path.{sym, ◌∙◌}
 use Prim.Native.Nat.{◌-◌}
-use borrow.Author.Rules.{rules}
-use Rattle.finite.proofs.Search.{Searched, search_start, search_next, search_found, search_missed}
-use Rattle.rules.specs.Sets.{standing}
+use Rattle.finite.proofs.Search.{search_start, search_next, search_found, search_missed}
 use Rattle.rules.proofs.processor_of.Goals as goal
 
 pub loop-p-init : goal.loop-p-init

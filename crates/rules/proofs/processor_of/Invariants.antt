@@ -1,8 +1,6 @@
 -- `processor_of` meets its contract. Assumes nothing.
-use mathlib.Core.Path.{sym, ◌∙◌}
 use Prim.Native.Nat.{◌-◌}
-use borrow.Author.Rules.{rules}
-use Rattle.finite.proofs.Search.{Searched, search_start, search_next, search_found, search_missed}
+use Rattle.finite.proofs.Search.{Searched}
 use Rattle.rules.specs.Sets.{standing}
 use Rattle.rules.proofs.processor_of.Given as goal
 

@@ -2,9 +2,8 @@
 use mathlib.Core.Path.{refl}
 use Prim.Native.Nat.{◌-◌, ◌<◌}
 use native.Mathlib.Omega.{arith}
-use borrow.Author.Rules.{rules}
-use lib.ListN.{length, get_or}
-use Rattle.rules.proofs.SetsLoop.{Placing, placing_start, placing_next, placing_end}
+use lib.ListN.{get_or}
+use Rattle.rules.proofs.SetsLoop.{placing_start, placing_next, placing_end}
 use Rattle.rules.proofs.sets_of.Lts as lts
 use Rattle.rules.proofs.sets_of.Reads as reads
 use Rattle.rules.proofs.sets_of.Tie as tie

@@ -1,10 +1,7 @@
 -- `sets_of` meets its contract. Assumes nothing.
-use mathlib.Core.Path.{refl}
-use Prim.Native.Nat.{◌-◌, ◌<◌}
-use native.Mathlib.Omega.{arith}
-use borrow.Author.Rules.{rules}
-use lib.ListN.{length, get_or}
-use Rattle.rules.proofs.SetsLoop.{Placing, placing_start, placing_next, placing_end}
+use Prim.Native.Nat.{◌-◌}
+use lib.ListN.{length}
+use Rattle.rules.proofs.SetsLoop.{Placing}
 use Rattle.rules.proofs.sets_of.Given as goal
 
 abbrev pub invariant-loop-k : goal.invariant-loop-k

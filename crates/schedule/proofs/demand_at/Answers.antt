@@ -1,5 +1,4 @@
 -- The interference is that of the set's tasks of larger priority.
-use borrow.Author.Rules.{rules}
 use native.Mathlib.Omega.{arith}
 use Rattle.schedule.proofs.TasksOfArrays.{work_bound, small_shares, demand_of}
 use Rattle.schedule.proofs.demand_at.Goals as goal

@@ -1,7 +1,6 @@
 -- Both numbers and their difference fit in 32 bits with a sign.
 use mathlib.Core.Path.{◌≡◌, ap₂, subst, sym}
 use native.Mathlib.Omega.{arith}
-use borrow.Author.Rules.{rules}
 use lib.IntN.{pos, ◌-ℤ◌}
 use mir.Syntax.{w32}
 use mir.Val.{SFits, to_z}

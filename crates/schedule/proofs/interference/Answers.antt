@@ -5,8 +5,7 @@ use lib.Dec.{T}
 use Rattle.mask.specs.Mask.{has, below}
 use Rattle.mask.proofs.Laws.{has_below}
 use Rattle.mask.proofs.Visit.{visit_member, visit_less}
-use Rattle.mask.proofs.Summed.{Summed, summed_start, summed_fits, summed_next, summed_end}
-use Rattle.schedule.specs.Arrays.{share_of}
+use Rattle.mask.proofs.Summed.{summed_start, summed_fits, summed_next, summed_end}
 use Rattle.schedule.proofs.Shares.{shares_bound}
 use Rattle.schedule.proofs.interference.Lts as lts
 use Rattle.schedule.proofs.interference.Reads as reads

@@ -1,13 +1,9 @@
 -- The members visited have a response; one without makes the set late.
-use borrow.Author.Rules.{rules}
 use Prim.Native.Nat.{◌<◌}
-use native.Mathlib.Omega.{arith}
-use lib.Dec.{T}
 use Rattle.mask.specs.Mask.{has}
-use Rattle.mask.proofs.Visit.{Visit, visit_start, visit_member, visit_less, visit_next, visit_end}
+use Rattle.mask.proofs.Visit.{Visit}
 use Rattle.schedule.specs.Response.{response}
 use Rattle.schedule.specs.Arrays.{tasks_of}
-use Rattle.schedule.proofs.TasksOfArrays.{task_of, late_if, not_late_if}
 use Rattle.schedule.proofs.is_late.Given as goal
 
 abbrev pub invariant-loop-left : goal.invariant-loop-left

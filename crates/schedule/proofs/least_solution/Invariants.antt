@@ -1,15 +1,9 @@
 -- The loop keeps x within the limit and on the way to the least solution.
-use borrow.Author.Rules.{rules}
-use mathlib.Core.Path.{sym, ◌∙◌}
-use mathlib.Core.Logic.{⊎_elim}
 use Prim.Native.Nat.{◌-◌}
-use native.Mathlib.Omega.{arith}
 use Rattle.mask.specs.Mask.{has}
 use Rattle.schedule.specs.Response.{demand}
 use Rattle.schedule.specs.Arrays.{tasks_of}
-use Rattle.schedule.proofs.TasksOfArrays.{valid_of}
-use Rattle.schedule.proofs.LateSets.{demand_rises, demand_works, demand_start}
-use Rattle.schedule.proofs.ResponseLoop.{Repeating, repeat_step, repeat_falls, repeat_reached, repeat_exceeded}
+use Rattle.schedule.proofs.ResponseLoop.{Repeating}
 use Rattle.schedule.proofs.least_solution.Given as goal
 
 abbrev pub invariant-loop-y : goal.invariant-loop-y

@@ -1,6 +1,5 @@
 -- The deadline minus the worst response; 0 for that is beyond.
 use mathlib.Core.Path.{◌∙◌}
-use borrow.Author.Rules.{rules}
 use mir.Syntax.{w32}
 use mir.ValLaws.{to_z-of_z}
 use Rattle.schedule.proofs.Signed.{margin_beyond, margin_known}

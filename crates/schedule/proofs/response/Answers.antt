@@ -1,6 +1,5 @@
 -- The least solution up to the deadline, which is within the period.
 use mathlib.Core.Path.{◌∙◌}
-use borrow.Author.Rules.{rules}
 use Rattle.schedule.proofs.TasksOfArrays.{valid_of, constrained_of, deadline_bound}
 use Rattle.schedule.proofs.LateSets.{response_cut}
 use Rattle.schedule.proofs.response.Goals as goal

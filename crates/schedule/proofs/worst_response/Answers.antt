@@ -1,6 +1,5 @@
 -- The least solution up to the period.
 use native.Mathlib.Omega.{arith}
-use borrow.Author.Rules.{rules}
 use Rattle.mask.specs.Mask.{has}
 use Rattle.schedule.specs.Response.{worst_response}
 use Rattle.schedule.specs.Arrays.{tasks_of}

@@ -1,5 +1,4 @@
 -- `put_head` meets its contract: the head of a placement, or of none.
-use borrow.Author.Rules.{rules}
 use Rattle.partial.proofs.Naming.{names}
 use Rattle.search.proofs.Writing.{head_known, names_list}
 use Rattle.search.proofs.put_head.Goals as goal

@@ -1,6 +1,5 @@
 -- `search` meets its contract: the file's refusal, or what the search on its table leaves.
 use mathlib.Core.Path.{refl, sym, ap, ◌∙◌}
-use borrow.Author.Rules.{rules}
 use Rattle.table.specs.declared.Reading.{Reading}
 use Rattle.table.proofs.Sound.{read_sound}
 use Rattle.search.proofs.search.Goals as goal

@@ -1,6 +1,5 @@
 -- The rows of the table are what the search asks to be lent, and arrays of zeros are learnt.
 use native.Mathlib.Omega.{arith}
-use borrow.Author.Rules.{rules}
 use Rattle.partial.proofs.Empty.{started}
 use Rattle.late_cache.proofs.Laws.{late_cache_start}
 use Rattle.bound_cache.proofs.Laws.{learnt_start}

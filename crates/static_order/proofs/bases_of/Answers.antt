@@ -1,8 +1,8 @@
 -- The tasks are rated one by one.
 use Prim.Native.Nat.{◌-◌}
 use borrow.Author.Rules.{rules}
-use Rattle.table.proofs.Filling.{Filled, fill_start, fill_put, fill_end}
-use Rattle.static_order.specs.StaticOrder.{base_of, bases_of}
+use Rattle.table.proofs.Filling.{fill_start, fill_put, fill_end}
+use Rattle.static_order.specs.StaticOrder.{bases_of}
 use Rattle.static_order.proofs.bases_of.Goals as goal
 
 pub loop-k-init : goal.loop-k-init

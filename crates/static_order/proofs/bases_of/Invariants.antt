@@ -1,8 +1,7 @@
 -- The tasks are rated one by one.
 use Prim.Native.Nat.{◌-◌}
-use borrow.Author.Rules.{rules}
-use Rattle.table.proofs.Filling.{Filled, fill_start, fill_put, fill_end}
-use Rattle.static_order.specs.StaticOrder.{base_of, bases_of}
+use Rattle.table.proofs.Filling.{Filled}
+use Rattle.static_order.specs.StaticOrder.{base_of}
 use Rattle.static_order.proofs.bases_of.Given as goal
 
 abbrev pub invariant-loop-k : goal.invariant-loop-k

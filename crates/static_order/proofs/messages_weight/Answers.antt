@@ -3,10 +3,8 @@ use mathlib.Core.Path.{refl}
 use mathlib.Core.Bool.{true}
 use Prim.Native.Nat.{◌-◌}
 use borrow.Author.Rules.{rules}
-use lib.ListN.{get_or}
-use Rattle.finite.proofs.SumLoop.{Summing, summing_start, summing_in, summing_end}
-use Rattle.rows.specs.Rows.{sender_row, receiver_row, amount_row}
-use Rattle.static_order.specs.StaticOrder.{message_weight, messages_weight}
+use Rattle.finite.proofs.SumLoop.{summing_start, summing_in, summing_end}
+use Rattle.static_order.specs.StaticOrder.{messages_weight}
 use Rattle.static_order.proofs.messages_weight.Goals as goal
 
 pub loop-j-init : goal.loop-j-init

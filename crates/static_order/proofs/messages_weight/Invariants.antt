@@ -1,12 +1,10 @@
 -- The messages are weighed one by one, each at most 4,096.
-use mathlib.Core.Path.{refl}
 use mathlib.Core.Bool.{true}
 use Prim.Native.Nat.{◌-◌}
-use borrow.Author.Rules.{rules}
 use lib.ListN.{get_or}
-use Rattle.finite.proofs.SumLoop.{Summing, summing_start, summing_in, summing_end}
+use Rattle.finite.proofs.SumLoop.{Summing}
 use Rattle.rows.specs.Rows.{sender_row, receiver_row, amount_row}
-use Rattle.static_order.specs.StaticOrder.{message_weight, messages_weight}
+use Rattle.static_order.specs.StaticOrder.{message_weight}
 use Rattle.static_order.proofs.messages_weight.Given as goal
 
 abbrev pub invariant-loop-j : goal.invariant-loop-j

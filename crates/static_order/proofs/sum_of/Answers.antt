@@ -4,9 +4,8 @@ use mathlib.Core.Bool.{true}
 use Prim.Native.Nat.{◌-◌}
 use native.Mathlib.Omega.{arith}
 use borrow.Author.Rules.{rules}
-use lib.ListN.{get_or}
-use Rattle.finite.proofs.SumLoop.{Summing, summing_start, summing_in, summing_end}
-use Rattle.static_order.specs.StaticOrder.{short, sum_of}
+use Rattle.finite.proofs.SumLoop.{summing_start, summing_in, summing_end}
+use Rattle.static_order.specs.StaticOrder.{sum_of}
 use Rattle.static_order.proofs.sum_of.Goals as goal
 
 pub loop-p-init : goal.loop-p-init

@@ -1,12 +1,9 @@
 -- The rooms are added one by one, each below 2^40.
-use mathlib.Core.Path.{refl}
 use mathlib.Core.Bool.{true}
 use Prim.Native.Nat.{◌-◌}
-use native.Mathlib.Omega.{arith}
-use borrow.Author.Rules.{rules}
 use lib.ListN.{get_or}
-use Rattle.finite.proofs.SumLoop.{Summing, summing_start, summing_in, summing_end}
-use Rattle.static_order.specs.StaticOrder.{short, sum_of}
+use Rattle.finite.proofs.SumLoop.{Summing}
+use Rattle.static_order.specs.StaticOrder.{short}
 use Rattle.static_order.proofs.sum_of.Given as goal
 
 abbrev pub invariant-loop-p : goal.invariant-loop-p

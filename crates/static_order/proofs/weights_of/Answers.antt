@@ -1,12 +1,10 @@
 -- The tasks are weighed one by one.
 use mathlib.Core.Path.{◌∙◌}
-use Prim.Native.Nat.{◌+◌, ◌-◌}
+use Prim.Native.Nat.{◌-◌}
 use borrow.Author.Rules.{rules}
 use borrow.Author.Tests.{lt-ltb}
-use lib.ListN.{get_or}
-use Rattle.table.proofs.Filling.{Filled, fill_start, fill_put, fill_end}
-use Rattle.rows.specs.Rows.{load_row, memory_row}
-use Rattle.static_order.specs.StaticOrder.{millionths_of, weights_of}
+use Rattle.table.proofs.Filling.{fill_start, fill_put, fill_end}
+use Rattle.static_order.specs.StaticOrder.{weights_of}
 use Rattle.static_order.proofs.weights_of.Goals as goal
 
 pub sum_of-all_memory-requires : goal.sum_of-all_memory-requires

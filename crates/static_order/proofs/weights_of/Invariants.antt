@@ -1,12 +1,9 @@
 -- The tasks are weighed one by one.
-use mathlib.Core.Path.{◌∙◌}
 use Prim.Native.Nat.{◌+◌, ◌-◌}
-use borrow.Author.Rules.{rules}
-use borrow.Author.Tests.{lt-ltb}
 use lib.ListN.{get_or}
-use Rattle.table.proofs.Filling.{Filled, fill_start, fill_put, fill_end}
+use Rattle.table.proofs.Filling.{Filled}
 use Rattle.rows.specs.Rows.{load_row, memory_row}
-use Rattle.static_order.specs.StaticOrder.{millionths_of, weights_of}
+use Rattle.static_order.specs.StaticOrder.{millionths_of}
 use Rattle.static_order.proofs.weights_of.Given as goal
 
 abbrev pub invariant-loop-k : goal.invariant-loop-k

@@ -4,7 +4,6 @@ use mathlib.Core.Bool.{Bool, true, false}
 use mathlib.Core.List.{List}
 use Prim.Native.Nat.{ℕ}
 use native.Mathlib.Omega.{arith}
-use borrow.Author.Rules.{rules}
 use Rattle.subgradient.specs.declared.Adapted.{Adapted}
 use Rattle.subgradient.specs.Subgradient.{AtMost, counts_of, direction_of, step_of}
 use Rattle.subgradient.proofs.Laws.{counts_small, direction_small, adapt_still, adapt_moves}

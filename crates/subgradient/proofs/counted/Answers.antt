@@ -1,14 +1,13 @@
 -- The members that are gone from `rest` are counted.
 use mathlib.Core.Path.{refl}
-use Prim.Native.Nat.{◌+◌, ◌<◌}
+use Prim.Native.Nat.{◌<◌}
 use native.Mathlib.Omega.{arith}
 use borrow.Author.Rules.{rules}
 use lib.Dec.{T, ltb→lt}
-use lib.ListN.{get_or}
 use Rattle.mask.specs.Mask.{has}
-use Rattle.mask.proofs.Visit.{Visit, visit_start, visit_member, visit_less, visit_next}
+use Rattle.mask.proofs.Visit.{visit_start, visit_member, visit_less, visit_next}
 use Rattle.mask.proofs.Laws.{below_has}
-use Rattle.subgradient.proofs.Rows.{Changed, changed_start, changed_next, changed_end}
+use Rattle.subgradient.proofs.Rows.{changed_start, changed_next, changed_end}
 use Rattle.subgradient.proofs.Laws.{tasks_in, tasks_below, count_more}
 use Rattle.subgradient.proofs.counted.Lts as lts
 use Rattle.subgradient.proofs.counted.Reads as reads

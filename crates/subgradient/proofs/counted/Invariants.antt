@@ -1,15 +1,9 @@
 -- The members that are gone from `rest` are counted.
-use mathlib.Core.Path.{refl}
-use Prim.Native.Nat.{◌+◌, ◌<◌}
-use native.Mathlib.Omega.{arith}
-use borrow.Author.Rules.{rules}
-use lib.Dec.{T, ltb→lt}
+use Prim.Native.Nat.{◌+◌}
 use lib.ListN.{get_or}
-use Rattle.mask.specs.Mask.{has}
-use Rattle.mask.proofs.Visit.{Visit, visit_start, visit_member, visit_less, visit_next}
-use Rattle.mask.proofs.Laws.{below_has}
-use Rattle.subgradient.proofs.Rows.{Changed, changed_start, changed_next, changed_end}
-use Rattle.subgradient.proofs.Laws.{tasks_in, tasks_below, count_more}
+use Rattle.mask.proofs.Visit.{Visit}
+use Rattle.subgradient.proofs.Rows.{Changed}
+use Rattle.subgradient.proofs.Laws.{tasks_in}
 use Rattle.subgradient.proofs.counted.Given as goal
 
 abbrev pub invariant-loop-rest : goal.invariant-loop-rest

@@ -1,10 +1,7 @@
 -- The sets below p are counted.
-use mathlib.Core.Path.{◌≡◌, refl, ◌∙◌}
+use mathlib.Core.Path.{◌≡◌}
 use Prim.Native.Nat.{◌-◌, ◌≤◌}
-use native.Mathlib.Omega.{arith}
-use borrow.Author.Rules.{rules}
 use Rattle.subgradient.specs.Subgradient.{counts_of}
-use Rattle.subgradient.proofs.Laws.{counts_start, counts_next, counts_small}
 use Rattle.subgradient.proofs.counts.Given as goal
 
 abbrev pub invariant-loop-p : goal.invariant-loop-p

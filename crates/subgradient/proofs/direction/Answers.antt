@@ -1,12 +1,7 @@
 -- The places below k hold their directions.
-use Prim.Native.Nat.{ℕ, ◌-◌, ◌≤◌}
 use native.Mathlib.Omega.{arith}
-use mathlib.Core.List.{List}
-use mathlib.Core.Bool.{Bool}
 use borrow.Author.Rules.{rules}
-use lib.ListN.{get_or}
-use Rattle.subgradient.specs.Subgradient.{direction_from}
-use Rattle.finite.proofs.Filling.{Filled, filled_start, filled_next, filled_end}
+use Rattle.finite.proofs.Filling.{filled_start, filled_next, filled_end}
 use Rattle.subgradient.proofs.direction.Invariants.{new}
 use Rattle.subgradient.proofs.direction.Goals as goal
 

@@ -1,6 +1,5 @@
 -- By the test.
 use mathlib.Core.Path.{refl}
-use borrow.Author.Rules.{rules}
 use Rattle.subgradient.proofs.direction_from.Goals as goal
 
 pub returns-then-first : goal.returns-then-first

@@ -4,12 +4,10 @@ use Prim.Native.Nat.{◌<◌}
 use native.Mathlib.Omega.{arith}
 use borrow.Author.Rules.{rules}
 use lib.Dec.{T}
-use lib.ListN.{get_or}
 use Rattle.mask.specs.Mask.{has}
-use Rattle.mask.proofs.Visit.{Visit, visit_start, visit_member, visit_less, visit_next}
+use Rattle.mask.proofs.Visit.{visit_start, visit_member, visit_less, visit_next}
 use Rattle.mask.proofs.Laws.{below_has}
-use Rattle.subgradient.specs.Subgradient.{moved_weight}
-use Rattle.subgradient.proofs.Rows.{Changed, changed_start, changed_next, changed_end}
+use Rattle.subgradient.proofs.Rows.{changed_start, changed_next, changed_end}
 use Rattle.subgradient.proofs.moved.Lts as lts
 use Rattle.subgradient.proofs.moved.Reads as reads
 use Rattle.subgradient.proofs.moved.Tie as tie

@@ -1,15 +1,8 @@
 -- The members that are gone from `rest` have moved.
-use mathlib.Core.Path.{refl}
-use Prim.Native.Nat.{◌<◌}
-use native.Mathlib.Omega.{arith}
-use borrow.Author.Rules.{rules}
-use lib.Dec.{T}
 use lib.ListN.{get_or}
-use Rattle.mask.specs.Mask.{has}
-use Rattle.mask.proofs.Visit.{Visit, visit_start, visit_member, visit_less, visit_next}
-use Rattle.mask.proofs.Laws.{below_has}
+use Rattle.mask.proofs.Visit.{Visit}
 use Rattle.subgradient.specs.Subgradient.{moved_weight}
-use Rattle.subgradient.proofs.Rows.{Changed, changed_start, changed_next, changed_end}
+use Rattle.subgradient.proofs.Rows.{Changed}
 use Rattle.subgradient.proofs.moved.Given as goal
 
 abbrev pub invariant-loop-rest : goal.invariant-loop-rest

@@ -3,9 +3,8 @@ use mathlib.Core.Path.{refl, ◌∙◌}
 use Prim.Native.Nat.{◌*◌, ◌≤◌}
 use native.Mathlib.Omega.{arith}
 use native.Mathlib.Nat.{mul-le-mul, div-le_self}
-use borrow.Author.Rules.{rules}
 use borrow.Author.Tests.{lt-ltb, le-ltb}
-use Rattle.subgradient.specs.Subgradient.{distance, limited, change_of}
+use Rattle.subgradient.specs.Subgradient.{distance, change_of}
 use Rattle.subgradient.proofs.Laws.{distance_small}
 use Rattle.subgradient.proofs.moved_weight.Lts as lts
 use Rattle.subgradient.proofs.moved_weight.Reads as reads

@@ -4,9 +4,9 @@ use native.Mathlib.Omega.{arith}
 use borrow.Author.Rules.{rules}
 use lib.Dec.{T}
 use Rattle.mask.specs.Mask.{has}
-use Rattle.mask.proofs.Visit.{Visit, visit_start, visit_left, visit_less, visit_next}
+use Rattle.mask.proofs.Visit.{visit_start, visit_left, visit_less, visit_next}
 use Rattle.mask.proofs.Laws.{below_has}
-use Rattle.subgradient.proofs.Sums.{Sum, sum_start, sum_next, sum_fits, sum_end}
+use Rattle.subgradient.proofs.Sums.{sum_start, sum_next, sum_fits, sum_end}
 use Rattle.subgradient.proofs.Laws.{square, square_small}
 use Rattle.subgradient.proofs.norm.Lts as lts
 use Rattle.subgradient.proofs.norm.Reads as reads

@@ -1,13 +1,7 @@
 -- The sum is that of the members that are gone from `rest`.
-use Prim.Native.Nat.{◌≤◌, ◌<◌}
-use native.Mathlib.Omega.{arith}
-use borrow.Author.Rules.{rules}
-use lib.Dec.{T}
-use Rattle.mask.specs.Mask.{has}
-use Rattle.mask.proofs.Visit.{Visit, visit_start, visit_left, visit_less, visit_next}
-use Rattle.mask.proofs.Laws.{below_has}
-use Rattle.subgradient.proofs.Sums.{Sum, sum_start, sum_next, sum_fits, sum_end}
-use Rattle.subgradient.proofs.Laws.{square, square_small}
+use Rattle.mask.proofs.Visit.{Visit}
+use Rattle.subgradient.proofs.Sums.{Sum}
+use Rattle.subgradient.proofs.Laws.{square}
 use Rattle.subgradient.proofs.norm.Given as goal
 
 abbrev pub invariant-loop-rest : goal.invariant-loop-rest

@@ -1,6 +1,5 @@
 -- By the test.
 use mathlib.Core.Path.{sym, ◌∙◌}
-use borrow.Author.Rules.{rules}
 use Rattle.subgradient.proofs.Laws.{off_scale_some, rescaled_off, rescaled_on}
 use Rattle.subgradient.proofs.rescaled.Goals as goal
 

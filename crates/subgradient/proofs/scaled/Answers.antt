@@ -1,12 +1,10 @@
 -- The places below k hold their scaled weights.
 use mathlib.Core.Path.{ap, ◌∙◌}
-use mathlib.Core.List.{List}
-use Prim.Native.Nat.{ℕ, ◌*◌, ◌/◌, ◌-◌, ◌≤◌}
+use Prim.Native.Nat.{ℕ, ◌*◌, ◌/◌}
 use native.Mathlib.Omega.{arith}
 use borrow.Author.Rules.{rules}
-use lib.ListN.{get_or}
 use Rattle.subgradient.specs.Subgradient.{limited}
-use Rattle.finite.proofs.Filling.{Filled, filled_start, filled_next, filled_end}
+use Rattle.finite.proofs.Filling.{filled_start, filled_next, filled_end}
 use Rattle.subgradient.proofs.scaled.Invariants.{new}
 use Rattle.subgradient.proofs.scaled.Goals as goal
 

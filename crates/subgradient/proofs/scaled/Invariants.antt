@@ -1,12 +1,9 @@
 -- The places below k hold their scaled weights.
-use mathlib.Core.Path.{ap, ◌∙◌}
 use mathlib.Core.List.{List}
 use Prim.Native.Nat.{ℕ, ◌*◌, ◌/◌, ◌-◌, ◌≤◌}
-use native.Mathlib.Omega.{arith}
-use borrow.Author.Rules.{rules}
 use lib.ListN.{get_or}
 use Rattle.subgradient.specs.Subgradient.{limited}
-use Rattle.finite.proofs.Filling.{Filled, filled_start, filled_next, filled_end}
+use Rattle.finite.proofs.Filling.{Filled}
 use Rattle.subgradient.proofs.scaled.Given as goal
 
 abbrev pub new : List ℕ → ℕ → ℕ → ℕ

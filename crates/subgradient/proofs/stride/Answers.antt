@@ -3,7 +3,6 @@ use mathlib.Core.Path.{refl}
 use Prim.Native.Nat.{◌+◌, ◌*◌, ◌/◌, ◌≤◌}
 use native.Mathlib.Omega.{arith}
 use native.Mathlib.Nat.{mul-le-mul}
-use borrow.Author.Rules.{rules}
 use Rattle.subgradient.proofs.stride.Lts as lts
 use Rattle.subgradient.proofs.stride.Reads as reads
 use Rattle.subgradient.proofs.stride.Goals as goal

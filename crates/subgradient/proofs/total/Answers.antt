@@ -5,9 +5,9 @@ use borrow.Author.Rules.{rules}
 use lib.Dec.{T}
 use lib.ListN.{get_or}
 use Rattle.mask.specs.Mask.{has}
-use Rattle.mask.proofs.Visit.{Visit, visit_start, visit_left, visit_less, visit_next}
+use Rattle.mask.proofs.Visit.{visit_start, visit_left, visit_less, visit_next}
 use Rattle.mask.proofs.Laws.{below_has}
-use Rattle.subgradient.proofs.Sums.{Sum, sum_start, sum_next, sum_fits, sum_end}
+use Rattle.subgradient.proofs.Sums.{sum_start, sum_next, sum_fits, sum_end}
 use Rattle.subgradient.proofs.total.Lts as lts
 use Rattle.subgradient.proofs.total.Reads as reads
 use Rattle.subgradient.proofs.total.Tie as tie

@@ -1,6 +1,5 @@
 -- `can_stand` meets its contract. Assumes nothing.
 use mathlib.Core.Path.{sym, ◌∙◌}
-use borrow.Author.Rules.{rules}
 use Rattle.subsets.proofs.can_stand.Goals as goal
 
 pub returns-then-has : goal.returns-then-has

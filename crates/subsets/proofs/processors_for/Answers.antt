@@ -2,12 +2,12 @@
 use mathlib.Core.Path.{◌≡◌, refl, sym, ap, ◌∙◌}
 use mathlib.Core.Logic.{⊎_elim}
 use mathlib.Core.Bool.{Bool}
-use Prim.Native.Nat.{ℕ, ◌-◌, ◌≤◌}
+use Prim.Native.Nat.{ℕ, ◌-◌}
 use native.Mathlib.Numerals.{add-one}
 use native.Mathlib.Omega.{arith}
 use borrow.Author.Rules.{rules}
 use Rattle.finite.specs.Finite.{sum_to}
-use Rattle.mask.specs.Mask.{insert_of, mask_of}
+use Rattle.mask.specs.Mask.{insert_of}
 use Rattle.mask.proofs.Laws.{mask_insert, mask_skip}
 use Rattle.partial.proofs.MaskSets.{meets_if, meets_not}
 use Rattle.subsets.specs.Subsets.{takes, processors_for}

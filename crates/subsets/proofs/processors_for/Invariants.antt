@@ -1,16 +1,8 @@
 -- The processors are looked at one after the other.
-use mathlib.Core.Path.{◌≡◌, refl, sym, ap, ◌∙◌}
-use mathlib.Core.Logic.{⊎_elim}
-use mathlib.Core.Bool.{Bool}
-use Prim.Native.Nat.{ℕ, ◌-◌, ◌≤◌}
-use native.Mathlib.Numerals.{add-one}
-use native.Mathlib.Omega.{arith}
-use borrow.Author.Rules.{rules}
-use Rattle.finite.specs.Finite.{sum_to}
-use Rattle.mask.specs.Mask.{insert_of, mask_of}
-use Rattle.mask.proofs.Laws.{mask_insert, mask_skip}
-use Rattle.partial.proofs.MaskSets.{meets_if, meets_not}
-use Rattle.subsets.specs.Subsets.{takes, processors_for}
+use mathlib.Core.Path.{◌≡◌}
+use Prim.Native.Nat.{◌-◌, ◌≤◌}
+use Rattle.mask.specs.Mask.{mask_of}
+use Rattle.subsets.specs.Subsets.{takes}
 use Rattle.subsets.proofs.processors_for.Given as goal
 
 abbrev pub invariant-loop-p : goal.invariant-loop-p

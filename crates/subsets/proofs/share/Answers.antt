@@ -1,7 +1,6 @@
 -- `share` meets its contract. Assumes nothing.
 use mathlib.Core.Path.{refl, sym, ◌∙◌}
 use native.Mathlib.Omega.{arith}
-use borrow.Author.Rules.{rules}
 use Rattle.subsets.proofs.share.Goals as goal
 
 pub returns-then-has : goal.returns-then-has

@@ -1,5 +1,4 @@
 -- Two rooms that differ are alike where the lesser is ample. Assumes nothing.
-use borrow.Author.Rules.{rules}
 use mathlib.Core.Logic.{inl}
 use Rattle.symmetry.proofs.Rooms.{rooms_alike}
 use Rattle.symmetry.proofs.alike.Goals as goal

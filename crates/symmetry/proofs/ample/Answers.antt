@@ -4,7 +4,7 @@ use Prim.Native.Nat.{◌<◌}
 use native.Mathlib.Omega.{arith}
 use Rattle.mask.proofs.Laws.{below_has}
 use Rattle.mask.proofs.Visit.{visit_member, visit_less}
-use Rattle.symmetry.proofs.Taking.{Taking, taking_start, taking_end, taking_over, taking_next}
+use Rattle.symmetry.proofs.Taking.{taking_start, taking_end, taking_over, taking_next}
 use Rattle.symmetry.proofs.ample.Lts as lts
 use Rattle.symmetry.proofs.ample.Reads as reads
 use Rattle.symmetry.proofs.ample.Tie as tie

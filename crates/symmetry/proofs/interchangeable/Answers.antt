@@ -1,7 +1,5 @@
 -- Each test is one part of being interchangeable. Assumes nothing.
-use borrow.Author.Rules.{rules}
 use native.Mathlib.Omega.{arith}
-use borrow.Author.Tests.{not-true, not-false}
 use Rattle.symmetry.proofs.Asking.{open_low, memory_yes, memory_no, load_yes, load_no, residence_says}
 use Rattle.symmetry.proofs.interchangeable.Goals as goal
 

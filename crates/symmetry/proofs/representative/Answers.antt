@@ -1,11 +1,7 @@
 -- No processor passed over is interchangeable with p. Assumes nothing.
-use borrow.Author.Rules.{rules}
-use Prim.Native.Nat.{ℕ, ◌-◌, ◌≤◌, ◌<◌}
+use Prim.Native.Nat.{◌-◌}
 use native.Mathlib.Omega.{arith}
 use borrow.Author.Count.{below_more}
-use Rattle.table.specs.declared.Table.{Table}
-use Rattle.symmetry.specs.Symmetry.{Interchangeable}
-use Rattle.symmetry.specs.Asks.{Asks}
 use Rattle.schedule.proofs.Says.{says_yes, says_no}
 use Rattle.symmetry.proofs.representative.Goals as goal
 

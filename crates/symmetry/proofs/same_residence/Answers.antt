@@ -5,10 +5,9 @@ use mathlib.Core.Bool.{Bool, true, false, not, beq, true≢false, false≢true}
 use Prim.Native.Nat.{◌<◌}
 use native.Mathlib.Omega.{arith}
 use lib.Dec.{T}
-use lib.ListN.{get_or}
 use Rattle.mask.specs.Mask.{has}
 use Rattle.mask.proofs.Laws.{below_has}
-use Rattle.mask.proofs.Visit.{Visit, visit_start, visit_end, visit_member, visit_less, visit_next}
+use Rattle.mask.proofs.Visit.{visit_start, visit_end, visit_member, visit_less, visit_next}
 use Rattle.symmetry.proofs.same_residence.Lts as lts
 use Rattle.symmetry.proofs.same_residence.Reads as reads
 use Rattle.symmetry.proofs.same_residence.Tie as tie

@@ -1,11 +1,7 @@
 -- `fill` meets its contract. Assumes nothing.
 use native.Mathlib.Omega.{arith}
-use borrow.Author.Rules.{rules}
 use Prim.Native.Nat.{◌-◌}
-use lib.ListN.{length}
-use Rattle.layout.specs.Format.{count}
-use Rattle.table.specs.Columns.{field_at}
-use Rattle.table.proofs.Filling.{Filled, fill_start, fill_put, fill_end}
+use Rattle.table.proofs.Filling.{fill_start, fill_put, fill_end}
 use Rattle.table.proofs.fill.Goals as goal
 
 pub loop-j-init : goal.loop-j-init

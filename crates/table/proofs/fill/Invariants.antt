@@ -1,11 +1,9 @@
 -- `fill` meets its contract. Assumes nothing.
-use native.Mathlib.Omega.{arith}
-use borrow.Author.Rules.{rules}
 use Prim.Native.Nat.{◌-◌}
 use lib.ListN.{length}
 use Rattle.layout.specs.Format.{count}
 use Rattle.table.specs.Columns.{field_at}
-use Rattle.table.proofs.Filling.{Filled, fill_start, fill_put, fill_end}
+use Rattle.table.proofs.Filling.{Filled}
 use Rattle.table.proofs.fill.Given as goal
 
 abbrev pub invariant-loop-j : goal.invariant-loop-j

@@ -1,5 +1,4 @@
 -- `groups_of` meets its contract. Assumes nothing.
-use borrow.Author.Rules.{rules}
 use Rattle.table.proofs.groups_of.Goals as goal
 
 pub returns : goal.returns

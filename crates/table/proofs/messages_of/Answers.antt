@@ -1,5 +1,4 @@
 -- `messages_of` meets its contract. Assumes nothing.
-use borrow.Author.Rules.{rules}
 use Rattle.table.proofs.messages_of.Goals as goal
 
 pub returns : goal.returns

@@ -1,6 +1,5 @@
 -- `number_at` meets its contract. Assumes nothing.
 use native.Mathlib.Omega.{arith}
-use borrow.Author.Rules.{rules}
 use Rattle.table.proofs.number_at.Goals as goal
 
 pub byte_at-requires : goal.byte_at-requires

@@ -1,5 +1,4 @@
 -- `processors_of` meets its contract. Assumes nothing.
-use borrow.Author.Rules.{rules}
 use Rattle.table.proofs.processors_of.Goals as goal
 
 pub returns : goal.returns

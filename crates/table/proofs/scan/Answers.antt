@@ -1,11 +1,9 @@
 -- `scan` meets its contract. Assumes nothing.
 use mathlib.Core.Path.{sym, ap, ◌∙◌}
 use native.Mathlib.Omega.{arith}
-use borrow.Author.Rules.{rules}
 use Prim.Native.Nat.{◌-◌}
-use lib.ListN.{length}
 use Rattle.layout.specs.declared.Shape.{Shape}
-use Rattle.table.proofs.Scanning.{Scanning, scan_start, scan_next, scan_refused, scan_end}
+use Rattle.table.proofs.Scanning.{scan_start, scan_next, scan_refused, scan_end}
 use Rattle.verdict.proofs.Taken.{accepted}
 use Rattle.table.proofs.scan.Goals as goal
 

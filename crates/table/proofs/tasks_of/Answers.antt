@@ -1,5 +1,4 @@
 -- `tasks_of` meets its contract. Assumes nothing.
-use borrow.Author.Rules.{rules}
 use Rattle.table.proofs.tasks_of.Goals as goal
 
 pub returns : goal.returns

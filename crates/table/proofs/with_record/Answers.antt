@@ -1,7 +1,6 @@
 -- `with_record` meets its contract. Assumes nothing.
 use mathlib.Core.Path.{ap}
 use native.Mathlib.Omega.{arith}
-use borrow.Author.Rules.{rules}
 use Prim.Native.Nat.{ℕ}
 use lib.ListN.{get_or}
 use Rattle.layout.specs.declared.Shape.{Shape}

@@ -1,7 +1,6 @@
 -- `put_digits` meets its contract: the last digit stands behind those of a tenth of the number.
-use Prim.Native.Nat.{ℕ, ◌+◌, ◌-◌, ◌%◌, ◌<◌}
+use Prim.Native.Nat.{ℕ, ◌+◌, ◌%◌, ◌<◌}
 use native.Mathlib.Omega.{arith}
-use borrow.Author.Rules.{rules}
 use lib.ListN.{length}
 use Rattle.wire.proofs.Put.{put_nothing, put_then, put_byte, put_length}
 use Rattle.text.proofs.Laws.{digits_none, digits_one, digits_more, put_few}

@@ -1,6 +1,5 @@
 -- `put_signed` meets its contract: the sign and the size behind it, or the number as it is.
 use native.Mathlib.Omega.{arith}
-use borrow.Author.Rules.{rules}
 use Rattle.wire.proofs.Put.{put_then}
 use Rattle.text.proofs.Signed.{read_fits, wide_minus_fits, minus_below_fits, minus_below_written, read_above_fits, read_above_written}
 use Rattle.text.proofs.put_signed.Goals as goal

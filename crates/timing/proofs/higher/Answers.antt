@@ -1,7 +1,7 @@
 -- The loop has the masks of the tasks below i.
 use borrow.Author.Rules.{rules}
 use Prim.Native.Nat.{◌-◌}
-use Rattle.timing.proofs.HigherLoops.{Rows, rows_start, rows_next, rows_end}
+use Rattle.timing.proofs.HigherLoops.{rows_start, rows_next, rows_end}
 use Rattle.timing.proofs.higher.Goals as goal
 
 pub loop-i-init : goal.loop-i-init

@@ -1,7 +1,6 @@
 -- The loop has the masks of the tasks below i.
-use borrow.Author.Rules.{rules}
 use Prim.Native.Nat.{◌-◌}
-use Rattle.timing.proofs.HigherLoops.{Rows, rows_start, rows_next, rows_end}
+use Rattle.timing.proofs.HigherLoops.{Rows}
 use Rattle.timing.proofs.higher.Given as goal
 
 abbrev pub invariant-loop-i : goal.invariant-loop-i

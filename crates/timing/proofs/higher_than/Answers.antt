@@ -2,7 +2,7 @@
 use borrow.Author.Rules.{rules}
 use mathlib.Core.Logic.{⊎_elim}
 use Prim.Native.Nat.{◌-◌}
-use Rattle.timing.proofs.HigherLoops.{Row, row_start, row_insert, row_skip, row_end}
+use Rattle.timing.proofs.HigherLoops.{row_start, row_insert, row_skip, row_end}
 use Rattle.timing.proofs.higher_than.Goals as goal
 
 pub loop-j-init : goal.loop-j-init

@@ -1,6 +1,5 @@
 -- `content_verdict` meets its contract. Assumes nothing.
 use mathlib.Core.Path.{◌∙◌}
-use borrow.Author.Rules.{rules}
 use Rattle.verdict.specs.Faults.{content_verdict, out_of_range, not_in_file, priority_used, periods_differ, message_repeated, hyperperiod_too_large}
 use Rattle.verdict.proofs.content_verdict.Goals as goal
 

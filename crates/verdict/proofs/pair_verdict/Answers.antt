@@ -3,7 +3,6 @@ use mathlib.Core.Path.{sym, ap, ◌∙◌}
 use mathlib.Core.Bool.{not}
 use native.Mathlib.Omega.{arith}
 use borrow.Author.Tests.{eq-eqb, ne_eqb}
-use borrow.Author.Rules.{rules}
 use Rattle.verdict.proofs.Passed.{pair_known}
 use Rattle.verdict.proofs.Tests.{periods_by, message_by}
 use Rattle.verdict.proofs.pair_verdict.Goals as goal

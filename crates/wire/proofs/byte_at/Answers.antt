@@ -1,6 +1,5 @@
 -- `byte_at` reads the number of one byte.
 use mathlib.Core.Path.{sym, ◌∙◌}
-use borrow.Author.Rules.{rules}
 use Rattle.wire.proofs.Laws.{number_one}
 use Rattle.wire.proofs.byte_at.Goals as goal
 

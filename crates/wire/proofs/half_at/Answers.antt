@@ -1,6 +1,5 @@
 -- `half_at` reads the number of two bytes as that of one and of those behind.
 use native.Mathlib.Omega.{arith}
-use borrow.Author.Rules.{rules}
 use Rattle.wire.proofs.Laws.{number_add}
 use Rattle.wire.proofs.half_at.Goals as goal
 

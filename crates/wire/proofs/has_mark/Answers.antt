@@ -1,5 +1,4 @@
 -- `has_mark` compares the two bytes of a mark.
-use borrow.Author.Rules.{rules}
 use borrow.Author.Tests.{eq-eqb, ne_eqb}
 use Rattle.wire.specs.Wire.{mark_at}
 use Rattle.wire.proofs.has_mark.Goals as goal

@@ -1,6 +1,5 @@
 -- `word_at` reads the number of four bytes as that of two and of those behind.
 use native.Mathlib.Omega.{arith}
-use borrow.Author.Rules.{rules}
 use Rattle.wire.proofs.Laws.{number_add}
 use Rattle.wire.proofs.word_at.Goals as goal
 

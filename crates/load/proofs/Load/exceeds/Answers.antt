@@ -1,7 +1,6 @@
 -- `Load::exceeds` meets its contract. Assumes nothing.
 use native.Mathlib.Nat.{mul-le-mul}
 use native.Mathlib.Omega.{arith}
-use borrow.Author.Rules.{rules}
 use Rattle.load.proofs.Load.exceeds.Goals as goal
 
 pub overflow_mul-result : goal.overflow_mul-result

@@ -1,5 +1,4 @@
 -- `of_task` meets its contract: an idle processor has no work.
-use borrow.Author.Rules.{rules}
 use native.Mathlib.Omega.{arith}
 use Rattle.load.proofs.Work.{work_le}
 use Rattle.load.proofs.Load.of_task.Goals as goal

@@ -1,5 +1,4 @@
 -- `Load::thousandths` meets its contract: below half a thousandth, above it, and at exactly half.
-use borrow.Author.Rules.{rules}
 use Prim.Native.Nat.{◌*◌}
 use native.Mathlib.Nat.{mod-le, div-le_self}
 use native.Mathlib.Omega.{arith}

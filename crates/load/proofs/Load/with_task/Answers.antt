@@ -2,7 +2,6 @@
 use native.Mathlib.Nat.{div-le_of_le-mul, mul-le-mul, mul-le-mul_right, add-le-add, le_trans, lt_of_le_of_lt}
 use lib.Dec.{lit<}
 use native.Mathlib.Omega.{arith}
-use borrow.Author.Rules.{rules}
 use Rattle.load.proofs.Load.with_task.Goals as goal
 
 pub overflow_mul-result : goal.overflow_mul-result
