@@ -243,7 +243,7 @@ fn first_use() {
     let example = fs::read(root().join("tables/example.txt")).expect("a text");
     let (file, _) = encode(str::from_utf8(&example).expect("text")).expect("a sound text");
     let listing = printed(place(&[], &example));
-    let program = "place: first use: building the program with its proofs, which takes about twenty minutes: \
+    let program = "place: first use: building the program with its proofs, which takes some tens of minutes: \
                    cd crates/place && rt run\n";
     let first = run(&mut command, &[&file]);
     assert_eq!((String::from_utf8_lossy(&first.said).as_ref(), first.status), (program, Some(0)));
