@@ -2,23 +2,21 @@
 // Any weights are right, so no answer rests on how they are found.
 #![tactic(auto)]
 
-ghost use Rattle.std.specs.Prelude.{◌≡◌, ◌+◌, ◌*◌, ◌≤◌, ◌<◌, T};
-ghost use Rattle.mask.specs.Mask.{below};
+ghost use Rattle.std.specs.Prelude.{◌+◌, ◌≤◌};
 ghost use Rattle.region.specs.Given.{Given, Gives};
 ghost use Rattle.bound_cache.specs.BoundCache.{LearntOf};
 ghost use Rattle.capacity_bound.specs.Bound.{BoundedAs};
 ghost use Rattle.capacity_bound.specs.CapacityBound.{Weighable};
 ghost use Rattle.adaptive_bound.specs.AdaptiveBound.{row_for, OnlyRow, OnlyRoot};
 
-use bound_cache::BoundCache;
+use bound_cache::Caches;
 use capacity_bound::Bounded;
 use descent::Pace;
-use heuristics::{Heuristics, ROOT, WEIGHTS};
-use late_cache::LateCache;
+use heuristics::{Heuristics, ROOT};
+use knapsack::Weighting;
 use nogoods::Mode;
-use partial::{Sizes, State};
-use rows::{Messages, Rows, WEIGHT};
-use schedule::Timing;
+use partial::{Instance, State};
+use rows::Measure;
 
 // Below a state a few rounds from the weights of the region around it; at the root of a decision many.
 const NODE: Pace = Pace {
@@ -45,11 +43,8 @@ struct Descended {
 }
 
 // Looks for weights by which the region is given up.
-fn descend<'a>(
-    timing: &'a Timing,
-    rows: &'a Rows,
-    messages: &'a Messages,
-    sizes: Sizes,
+fn descend(
+    instance: &Instance,
     s: State,
     sets: [u32; 8],
     from: [u32; 24],
@@ -57,25 +52,28 @@ fn descend<'a>(
     mode: Mode,
     list: &mut [u8],
     count: usize,
-    lateness: &mut LateCache,
-    bounds: &mut BoundCache,
+    caches: &mut Caches,
 ) -> Descended
-    requires { Given sizes timing.now rows.now messages.now
-        (λ t. Weighable t mode s sets list.old count) (λ t. LearntOf t list.old count rows.now lateness.old bounds.old)
+    requires { Given instance.now
+        (λ t. Weighable t mode s sets list.old count) (λ t. LearntOf t list.old count instance.now.rows caches.old.lateness caches.old.bounds)
         × (pace.far ≤ 8) × (pace.alpha ≤ 100) × (pace.rounds ≤ 256) }
-    ensures { Gives sizes timing.now rows.now messages.now
-        (λ t. Weighable t mode s sets list.old count) (λ t. LearntOf t list.old count rows.now lateness.old bounds.old)
-        (λ t. BoundedAs t mode s list.old count list.new result.bounded × LearntOf t list.new result.bounded.count rows.now lateness.new bounds.new) }
+    ensures { Gives instance.now
+        (λ t. Weighable t mode s sets list.old count) (λ t. LearntOf t list.old count instance.now.rows caches.old.lateness caches.old.bounds)
+        (λ t. BoundedAs t mode s list.old count list.new result.bounded × LearntOf t list.new result.bounded.count instance.now.rows caches.new.lateness caches.new.bounds) }
 {
     let mut descent = descent::begin(from, pace);
     let mut listed = count;
     let mut hopeless = false;
     while !hopeless && descent.rounds != 0 {
         let weights = descent.weights;
-        let order = ordering::order_of(&weights, &rows[WEIGHT]);
+        let order = ordering::order_of(&weights, &instance.rows.weight);
+        let weighting = Weighting {
+            weights,
+            order,
+            measure: Measure::Other,
+        };
         let weighed = capacity_bound::weigh(
-            timing, rows, messages, &weights, &order, 3, sizes, s, sets, mode, list, listed,
-            lateness, bounds,
+            instance, &weighting, s, sets, mode, list, listed, caches,
         );
         let bounded = weighed.bounded;
         hopeless = bounded.hopeless;
@@ -88,7 +86,7 @@ fn descend<'a>(
                 descent,
                 pace,
                 found,
-                sizes.processors,
+                instance.sizes.processors,
                 s.left,
                 weighed.gap,
                 weighed.calls,
@@ -107,73 +105,61 @@ fn descend<'a>(
 
 // The bound for a region below others: from the best weights of the region around it, which has one open task more; where conflicts are listed, from
 // those by which the region was given up before.
-pub fn refute<'a>(
-    timing: &'a Timing,
-    rows: &'a Rows,
-    messages: &'a Messages,
-    sizes: Sizes,
+pub fn refute(
+    instance: &Instance,
     s: State,
     sets: [u32; 8],
     mode: Mode,
     list: &mut [u8],
     count: usize,
     heuristics: &mut Heuristics,
-    lateness: &mut LateCache,
-    bounds: &mut BoundCache,
+    caches: &mut Caches,
 ) -> Bounded
-    requires { Given sizes timing.now rows.now messages.now
-        (λ t. Weighable t mode s sets list.old count) (λ t. LearntOf t list.old count rows.now lateness.old bounds.old) }
-    ensures { Gives sizes timing.now rows.now messages.now
-        (λ t. Weighable t mode s sets list.old count) (λ t. LearntOf t list.old count rows.now lateness.old bounds.old)
-        (λ t. BoundedAs t mode s list.old count list.new result × LearntOf t list.new result.count rows.now lateness.new bounds.new)
+    requires { Given instance.now
+        (λ t. Weighable t mode s sets list.old count) (λ t. LearntOf t list.old count instance.now.rows caches.old.lateness caches.old.bounds) }
+    ensures { Gives instance.now
+        (λ t. Weighable t mode s sets list.old count) (λ t. LearntOf t list.old count instance.now.rows caches.old.lateness caches.old.bounds)
+        (λ t. BoundedAs t mode s list.old count list.new result × LearntOf t list.new result.count instance.now.rows caches.new.lateness caches.new.bounds)
         × OnlyRow (row_for s.left) heuristics.old heuristics.new }
 {
-    let open = WEIGHTS + u32::count_ones(s.left) as usize;
+    let open = u32::count_ones(s.left) as usize;
     let mut around = open + 1;
     if mode.listing {
         around = open;
     }
-    let from = heuristics[around];
-    let descended = descend(
-        timing, rows, messages, sizes, s, sets, from, NODE, mode, list, count, lateness, bounds,
-    );
+    let from = heuristics.weights[around];
+    let descended = descend(instance, s, sets, from, NODE, mode, list, count, caches);
     let best = descended.best;
-    heuristics[open] = best;
+    heuristics.weights[open] = best;
     descended.bounded
 }
 
 // The bound for the region of a whole decision: from the best weights of the decision before.
-pub fn refute_all<'a>(
-    timing: &'a Timing,
-    rows: &'a Rows,
-    messages: &'a Messages,
-    sizes: Sizes,
+pub fn refute_all(
+    instance: &Instance,
     s: State,
     sets: [u32; 8],
     mode: Mode,
     list: &mut [u8],
     count: usize,
     heuristics: &mut Heuristics,
-    lateness: &mut LateCache,
-    bounds: &mut BoundCache,
+    caches: &mut Caches,
 ) -> Bounded
-    requires { Given sizes timing.now rows.now messages.now
-        (λ t. Weighable t mode s sets list.old count) (λ t. LearntOf t list.old count rows.now lateness.old bounds.old) }
-    ensures { Gives sizes timing.now rows.now messages.now
-        (λ t. Weighable t mode s sets list.old count) (λ t. LearntOf t list.old count rows.now lateness.old bounds.old)
-        (λ t. BoundedAs t mode s list.old count list.new result × LearntOf t list.new result.count rows.now lateness.new bounds.new)
+    requires { Given instance.now
+        (λ t. Weighable t mode s sets list.old count) (λ t. LearntOf t list.old count instance.now.rows caches.old.lateness caches.old.bounds) }
+    ensures { Gives instance.now
+        (λ t. Weighable t mode s sets list.old count) (λ t. LearntOf t list.old count instance.now.rows caches.old.lateness caches.old.bounds)
+        (λ t. BoundedAs t mode s list.old count list.new result × LearntOf t list.new result.count instance.now.rows caches.new.lateness caches.new.bounds)
         × OnlyRoot s.left heuristics.old heuristics.new }
 {
-    let mut from = heuristics[ROOT];
+    let mut from = heuristics.weights[ROOT];
     if subgradient::total(&from, s.left) == 0 {
-        let base = rows[WEIGHT];
+        let base = instance.rows.weight;
         from = subgradient::rescaled(base, s.left);
     }
-    let descended = descend(
-        timing, rows, messages, sizes, s, sets, from, START, mode, list, count, lateness, bounds,
-    );
+    let descended = descend(instance, s, sets, from, START, mode, list, count, caches);
     let best = descended.best;
-    heuristics[ROOT] = best;
-    heuristics[WEIGHTS + u32::count_ones(s.left) as usize + 1] = best;
+    heuristics.weights[ROOT] = best;
+    heuristics.weights[u32::count_ones(s.left) as usize + 1] = best;
     descended.bounded
 }

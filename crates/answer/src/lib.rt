@@ -1,10 +1,11 @@
 // The layout of the search answer in the caller's buffer: its head, the conflict records, and its end.
 #![tactic(auto)]
 
-ghost use Rattle.std.specs.Prelude.{◌≡◌, ◌++◌, ◌+◌, ◌*◌, ◌≤◌, length, take, drop};
-ghost use Rattle.finite.specs.Finite.{some_below, first_below};
+ghost use Rattle.std.specs.Prelude.{◌≡◌, Bool, ◌++◌, ℕ, ◌+◌, ◌*◌, ◌^◌, ◌≤◌, ◌<◌, length, take, drop};
+ghost use Rattle.finite.specs.Finite.{first_below};
 ghost use Rattle.mask.specs.Mask.{within};
-ghost use Rattle.wire.specs.Wire.{bytes, bytes_at, mark_bytes, laid};
+ghost use Rattle.wire.specs.Wire.{mark_bytes, laid};
+ghost use Rattle.answer.specs.Asking.{AskedBelow, Answers};
 ghost use Rattle.answer.specs.Answer.{found_head, none_head, conflict_bytes, end_bytes, mask_at, is_listed};
 
 const AL: [u8; 2] = *b"AL";
@@ -21,11 +22,7 @@ fn put_head(answer: &mut [u8], mark: &[u8; 2], processors: &[u8], n: usize)
     ensures { answer.new ≡ mark_bytes mark.now ++ take n processors.now ++ drop (n + 2) answer.old }
 {
     wire::put_mark(answer, mark);
-    let mut k: usize = 0;
-    while k < n {
-        answer[2 + k] = processors[k];
-        k += 1;
-    }
+    answer[2..2 + n].copy_from_slice(&processors[..n]);
 }
 
 // Puts the head for a placement of n tasks.
@@ -74,19 +71,35 @@ pub fn holds(list: &[u8], j: usize, set: u32) -> bool
 // takes one comparison and one branch.
 const BLOCK: usize = 16;
 
-// The first of the n conflicts from j on that is a subset of the set, n if none is.
-fn covering_in(list: &[u8], j: usize, n: usize, set: u32) -> usize
-    requires { 6 * (j + n) ≤ length list.now }
-    ensures { result ≡ first_below n (λ i. within (mask_at list.now (j + i)) set) }
+// Of the n numbers from j on how many come before the first that passes the test; n if none passes.
+fn first_in<F: Fn(usize) -> bool>(j: usize, n: usize, test: &F) -> usize
+    requires fits { j + n < 2 ^ 64 }
+    requires asked { AskedBelow (F.pre test.now) (j + n) }
+    ensures first { (p : ℕ → Bool) → Answers (F.post test.now) (j + n) p → result ≡ first_below n (λ i. p (j + i)) }
+    ensures upto { result ≤ n }
 {
-    let mut i: usize = 0;
-    while i < n {
-        if holds(list, j + i, set) {
+    for i in 0..n {
+        if test(j + i) {
             return i;
         }
-        i += 1;
     }
     n
+}
+
+// The first of the numbers below `count` that passes the test, `count` if none does.
+fn first_that<F: Fn(usize) -> bool>(count: usize, test: &F) -> usize
+    requires { AskedBelow (F.pre test.now) count }
+    ensures { (p : ℕ → Bool) → Answers (F.post test.now) count p → result ≡ first_below count p }
+{
+    let mut j: usize = 0;
+    while BLOCK <= count - j {
+        let i = first_in(j, BLOCK, test);
+        if i < BLOCK {
+            return j + i;
+        }
+        j += BLOCK;
+    }
+    j + first_in(j, count - j, test)
 }
 
 // The first of the first `count` conflicts that is a subset of the set, `count` if none is.
@@ -94,45 +107,15 @@ pub fn covering(list: &[u8], count: usize, set: u32) -> usize
     requires { 6 * count ≤ length list.now }
     ensures { result ≡ first_below count (λ j. within (mask_at list.now j) set) }
 {
-    let mut j: usize = 0;
-    while BLOCK <= count - j {
-        let i = covering_in(list, j, BLOCK, set);
-        if i < BLOCK {
-            return j + i;
-        }
-        j += BLOCK;
-    }
-    j + covering_in(list, j, count - j, set)
+    first_that(count, &|j| holds(list, j, set))
 }
 
-// Whether one of the `count` conflicts from j on has this mask: one word, one comparison for each.
-fn listed_in(list: &[u8], j: usize, count: usize, mask: u32) -> bool
-    requires { 6 * (j + count) ≤ length list.now }
-    ensures { result ≡ some_below count (λ i. bytes_at list.now (6 * (j + i) + 2) (bytes 4 mask)) }
-{
-    let mut i: usize = 0;
-    while i < count {
-        if mask_at(list, j + i) == mask {
-            return true;
-        }
-        i += 1;
-    }
-    false
-}
-
-// Whether one of the first `count` conflicts has this mask.
+// Whether one of the first `count` conflicts has this mask: one word, one comparison for each.
 pub fn listed(list: &[u8], count: usize, mask: u32) -> bool
     requires { 6 * count ≤ length list.now }
     ensures { result ≡ is_listed list.now count mask }
 {
-    let mut j: usize = 0;
-    while BLOCK <= count - j {
-        if listed_in(list, j, BLOCK, mask) {
-            return true;
-        }
-        j += BLOCK;
-    }
-    listed_in(list, j, count - j, mask)
+    first_that(count, &|j| mask_at(list, j) == mask) < count
 }
 
 // Puts the end at the start of a lent part.

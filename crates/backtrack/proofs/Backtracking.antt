@@ -1,8 +1,9 @@
 -- A region below a task on a processor, and the loop over the processors. Assumes nothing.
-use mathlib.Core.Path.{◌≡◌, refl, sym, subst, ◌∙◌}
+use mathlib.Core.Path.{◌≡◌, refl, sym, subst}
 use mathlib.Core.Logic.{◌⊎◌, inl, inr, ⊎_elim}
-use mathlib.Core.Bool.{Bool, true, false, false≢true}
+use mathlib.Core.Bool.{Bool, true, false}
 use mathlib.Core.List.{List}
+use Rattle.std.proofs.Common.{Option, Some, None}
 use Prim.Native.Nat.{ℕ, zero, suc, ◌+◌, ◌^◌, ◌≤◌, ◌<◌}
 use native.Mathlib.Decide.{ℕ_discrete, dec_le}
 use native.Mathlib.Omega.{arith}
@@ -29,41 +30,34 @@ use Rattle.symmetry.proofs.Swap.{swap_refuted}
 use Rattle.capacity_bound.specs.declared.Bounded.{Bounded}
 use Rattle.capacity_bound.specs.Bound.{BoundedAs}
 use Rattle.entering.specs.declared.Entered.{Entered}
+use Rattle.heuristics.specs.declared.Heuristics.{Heuristics}
 use Rattle.branching.specs.Branching.{pick_of}
 use Rattle.branching.proofs.Picking.{picked_open}
 use Rattle.backtrack.specs.declared.Backtracked.{Backtracked}
+use Rattle.backtrack.specs.declared.Outcome.{Outcome}
+use Rattle.backtrack.specs.declared.Outcome.TheVariants.{Found, Nothing, GaveUp}
 use Rattle.entering.specs.Entering.{EntersAs, EnteredAs}
-use Rattle.backtrack.specs.Backtrack.{BacktrackedIn, Passed, ExploredAs}
+use Rattle.backtrack.specs.Backtrack.{EndsAs, BacktrackedIn, Passed, ExploredAs}
 
 module _ {t : Table} {mode : Mode} {s : State} {list : List ℕ} {count : ℕ} (b : Begins t mode s list count) where
   -- the search gives up
-  pub backtracked_neither : mode.limited ≡ true → BacktrackedIn t mode (standing s.on) list count list (record { found = false; none = false; on = s.on; count = count })
-  backtracked_neither e = record {
-    list = extended_refl b.nogoods;
-    placement = λ f. absurd (false≢true f);
-    nothing = λ f. absurd (false≢true f);
-    certain = λ l f. absurd (false≢true (sym l ∙ e));
-  }
+  pub backtracked_neither : mode.limited ≡ true → BacktrackedIn t mode (standing s.on) list count list (record { outcome = GaveUp; count = count })
+  backtracked_neither e = record { list = extended_refl b.nogoods; answer = e }
 
   -- no task is open
-  pub backtracked_end : s.left ≡ 0 → BacktrackedIn t mode (standing s.on) list count list (record { found = true; none = false; on = s.on; count = count })
-  backtracked_end e = record {
-    list = extended_refl b.nogoods;
-    placement = λ f. witness_end b.fits e b.clear;
-    nothing = λ f. absurd (false≢true f);
-    certain = λ l f. absurd (false≢true (sym f));
-  }
+  pub backtracked_end : s.left ≡ 0 → BacktrackedIn t mode (standing s.on) list count list (record { outcome = Found s.on; count = count })
+  backtracked_end e = record { list = extended_refl b.nogoods; answer = witness_end b.fits e b.clear }
 
 -- what a bound leaves
 module _ {t : Table} {mode : Mode} {s : State} {old mid : List ℕ} {before : ℕ} (r : Bounded) (w : BoundedAs t mode s old before mid r) where
   pub bounded_begins : Begins t mode s old before → Begins t mode s mid r.count
   bounded_begins b = record { fits = b.fits; nogoods = w.list.nogoods; clear = λ q. clear_grows mode.listing (has (get_or s.on q 0)) w.list (b.clear q); narrowed = b.narrowed }
 
-  pub bounded_hopeless : r.hopeless ≡ true → (sets : List ℕ) → BacktrackedIn t mode (standing s.on) old before mid (record { found = false; none = true; on = sets; count = r.count })
-  bounded_hopeless e sets = record { list = w.list; placement = λ f. absurd (false≢true f); nothing = λ f. w.answer e; certain = λ l f. refl }
+  pub bounded_hopeless : r.hopeless ≡ true → BacktrackedIn t mode (standing s.on) old before mid (record { outcome = Nothing; count = r.count })
+  bounded_hopeless e = record { list = w.list; answer = w.answer e }
 
   pub bounded_then : {new : List ℕ} (x : Backtracked) → BacktrackedIn t mode (standing s.on) mid r.count new x → BacktrackedIn t mode (standing s.on) old before new x
-  bounded_then x y = record { list = extended_trans w.list y.list; placement = y.placement; nothing = y.nothing; certain = y.certain }
+  bounded_then x y = record { list = extended_trans w.list y.list; answer = y.answer }
 
 -- an open task is one of 24
 module _ {t : Table} (h : Sound t) {s : State} (fits : Fits t s) where
@@ -74,49 +68,49 @@ module _ {t : Table} (h : Sound t) {s : State} (fits : Fits t s) where
   open_below = has_below 24 s.left open_low
 
   -- the task that is picked is open
-  pub picked_waits : (base may : List ℕ) (processors : ℕ) (heuristics : List (List ℕ)) {k : ℕ} → k ≡ (pick_of base processors s.left may heuristics).task → 0 < s.left → T (has s.left k)
+  pub picked_waits : (base may : List ℕ) (processors : ℕ) (heuristics : Heuristics) {k : ℕ} → k ≡ (pick_of base processors s.left may heuristics).task → 0 < s.left → T (has s.left k)
   picked_waits base may processors heuristics e some = rw e (picked_open base may processors s.left heuristics some (omega (arith, ltb→lt s.left (2 ^ 24) open_below)))
 
 -- where nothing is listed, the task may not stand there
 pub explored_narrowed : {t : Table} {mode : Mode} {s : State} (k : ℕ) {p : ℕ} {list : List ℕ} {count : ℕ} → Begins t mode s list count → mode.listing ≡ false → T (has s.left k)
-    → p < t.processors.count → (T (has (get_or s.may p 0) k) → ⊥) → (sets : List ℕ) → ExploredAs t mode s k p list count list (record { found = false; none = true; on = sets; count = count })
-explored_narrowed {t} {mode} {s} k {p} {list} {count} b quiet waits low out sets = record {
+    → p < t.processors.count → (T (has (get_or s.may p 0) k) → ⊥) → ExploredAs t mode s k p list count list (record { outcome = Nothing; count = count })
+explored_narrowed {t} {mode} {s} k {p} {list} {count} b quiet waits low out = record {
   list = extended_refl b.nogoods;
-  placement = λ e. absurd (false≢true e);
-  nothing = λ e. inl (subst (λ (x : Bool). Refuted t (Bad (tasks_in t) x list count) (Within (and_task (standing s.on) k p))) (sym quiet) ((b.narrowed quiet p low).others k waits out));
-  certain = λ y e. refl;
+  answer = inl (subst (λ (x : Bool). Refuted t (Bad (tasks_in t) x list count) (Within (and_task (standing s.on) k p))) (sym quiet) ((b.narrowed quiet p low).others k waits out));
 }
 
 -- a lower processor can stand in for p
-pub explored_symmetric : {t : Table} {mode : Mode} {s : State} (k : ℕ) {p q : ℕ} {list : List ℕ} {count : ℕ} → Begins t mode s list count → Representative t s p q → (q ≡ p → ⊥) → (sets : List ℕ)
-    → ExploredAs t mode s k p list count list (record { found = false; none = true; on = sets; count = count })
-explored_symmetric k {p} {q} b w f sets =
+pub explored_symmetric : {t : Table} {mode : Mode} {s : State} (k : ℕ) {p q : ℕ} {list : List ℕ} {count : ℕ} → Begins t mode s list count → Representative t s p q → (q ≡ p → ⊥)
+    → ExploredAs t mode s k p list count list (record { outcome = Nothing; count = count })
+explored_symmetric k {p} {q} b w f =
     let l : q < p = omega (arith, w.upto, f) in
-    record { list = extended_refl b.nogoods; placement = λ e. absurd (false≢true e); nothing = λ e. inr (q, l, w.interchangeable l); certain = λ y e. refl }
+    record { list = extended_refl b.nogoods; answer = inr (q, l, w.interchangeable l) }
 
 -- the region below task k on processor p
 module _ {t : Table} {mode : Mode} {s : State} {k p : ℕ} {old mid : List ℕ} {before : ℕ} (e : Entered) (w : EnteredAs t mode s k p old before mid e) where
-  pub explored_closed : e.passes ≡ false → (sets : List ℕ) → ExploredAs t mode s k p old before mid (record { found = false; none = true; on = sets; count = e.count })
-  explored_closed f sets = record {
-    list = w.list;
-    placement = λ g. absurd (false≢true g);
-    nothing = λ g. inl (subst (λ (b : Bool). EntersAs (λ n. Begins t mode n mid e.count) b t mode s k p mid e.count e.next) f w.answer);
-    certain = λ l g. refl;
-  }
+  answered : (o : Option State) → e.next ≡ o → EntersAs (λ n. Begins t mode n mid e.count) t mode s k p mid e.count o
+  answered o f = subst (EntersAs (λ n. Begins t mode n mid e.count) t mode s k p mid e.count) f w.answer
 
-  pub explored_begins : e.passes ≡ true → Begins t mode e.next mid e.count
-  explored_begins f = (subst (λ (b : Bool). EntersAs (λ n. Begins t mode n mid e.count) b t mode s k p mid e.count e.next) f w.answer).1
+  pub explored_closed : e.next ≡ None → ExploredAs t mode s k p old before mid (record { outcome = Nothing; count = e.count })
+  explored_closed f = record { list = w.list; answer = inl (answered None f) }
 
-  pub explored_falls : e.passes ≡ true → T (has s.left k) → e.next.left < s.left
-  explored_falls f u =
-      let step = (subst (λ (b : Bool). EntersAs (λ n. Begins t mode n mid e.count) b t mode s k p mid e.count e.next) f w.answer).0 in
-      rw step.left (remove_lt s.left k u)
+  module _ {next : State} (f : e.next ≡ Some next) where
+    pub explored_begins : Begins t mode next mid e.count
+    explored_begins = (answered (Some next) f).1
 
-  pub explored_open : e.passes ≡ true → {new : List ℕ} (r : Backtracked) → BacktrackedIn t mode (standing e.next.on) mid e.count new r → ExploredAs t mode s k p old before new r
-  explored_open f {new} r x =
-      let step = (subst (λ (b : Bool). EntersAs (λ n. Begins t mode n mid e.count) b t mode s k p mid e.count e.next) f w.answer).0 in
-      let y = subst (λ (on : ℕ → ℕ → Bool). BacktrackedIn t mode on mid e.count new r) step.on x in
-      record { list = extended_trans w.list y.list; placement = y.placement; nothing = λ g. inl (y.nothing g); certain = y.certain }
+    pub explored_falls : T (has s.left k) → next.left < s.left
+    explored_falls u = rw (answered (Some next) f).0.left (remove_lt s.left k u)
+
+    pub explored_open : {new : List ℕ} (r : Backtracked) → BacktrackedIn t mode (standing next.on) mid e.count new r → ExploredAs t mode s k p old before new r
+    explored_open {new} r x =
+        let y = subst (λ (on : ℕ → ℕ → Bool). BacktrackedIn t mode on mid e.count new r) (answered (Some next) f).0.on x in
+        record { list = extended_trans w.list y.list; answer = below r.outcome y.answer }
+      where
+        below : (o : Outcome) → EndsAs (λ list count. Refuted t (Bad (tasks_in t) mode.listing list count) (Within (and_task (standing s.on) k p))) t mode (and_task (standing s.on) k p) new r.count o
+            → EndsAs (Passed t mode s k p) t mode (and_task (standing s.on) k p) new r.count o
+        below (Found sets) u = u
+        below Nothing u = inl u
+        below GaveUp u = u
 
 -- processor q is one of the i from the first on, around all m
 abbrev pub Behind : ℕ → ℕ → ℕ → ℕ → Type 0
@@ -150,13 +144,14 @@ module _ {t : Table} {mode : Mode} {s : State} {k : ℕ} {old : List ℕ} {befor
     grown : Extended (Met t (Within (standing s.on))) (tasks_in t) old before new r.count
     grown = extended_trans w.list (extended_map (λ c. met_map (λ q i u. λ j y v. u j y (and_part (standing s.on) k p j y v))) x.list)
 
-    pub backtracking_stop : r.none ≡ false → BacktrackedIn t mode (standing s.on) old before new r
-    backtracking_stop e = record {
-      list = grown;
-      placement = λ f. witness_map (and_part (standing s.on) k p) (λ y c. c) (x.placement f);
-      nothing = λ f. absurd (false≢true (sym e ∙ f));
-      certain = x.certain;
-    }
+    pub backtracking_stop : (r.outcome ≡ Nothing → ⊥) → BacktrackedIn t mode (standing s.on) old before new r
+    backtracking_stop e = record { list = grown; answer = go r.outcome e x.answer }
+      where
+        go : (o : Outcome) → (o ≡ Nothing → ⊥) → EndsAs (Passed t mode s k p) t mode (and_task (standing s.on) k p) new r.count o
+            → EndsAs (λ list count. Refuted t (Bad (tasks_in t) mode.listing list count) (Within (standing s.on))) t mode (standing s.on) new r.count o
+        go (Found sets) f u = witness_map (and_part (standing s.on) k p) (λ y c. c) u
+        go Nothing f u = absurd (f refl)
+        go GaveUp f u = u
 
     -- what was passed over by the list before is so by the list now
     passed_still : (q : ℕ) → Passed t mode s k q list at → Passed t mode s k q new r.count
@@ -167,11 +162,11 @@ module _ {t : Table} {mode : Mode} {s : State} {k : ℕ} {old : List ℕ} {befor
         (λ y. bad_grows (tasks_in t) mode.listing y x.list.grows) (λ z i v. v) u))
         (λ u. inr u)
 
-    pub backtracking_next : p < m → (p ≡ first + i) ⊎ (p + m ≡ first + i) → r.none ≡ true → Backtracking t mode s k old before first m (i + 1) new r.count
+    pub backtracking_next : p < m → (p ≡ first + i) ⊎ (p + m ≡ first + i) → r.outcome ≡ Nothing → Backtracking t mode s k old before first m (i + 1) new r.count
     backtracking_next l a e = record { list = grown; passed = λ q n u. go q n u (ℕ_discrete q p) }
       where
         go : (q : ℕ) → q < m → Behind first m (i + 1) q → Dec (q ≡ p) → Passed t mode s k q new r.count
-        go q n u (yes f) = subst (λ (y : ℕ). Passed t mode s k y new r.count) (sym f) (x.nothing e)
+        go q n u (yes f) = subst (λ (y : ℕ). Passed t mode s k y new r.count) (sym f) (subst (EndsAs (Passed t mode s k p) t mode (and_task (standing s.on) k p) new r.count) e x.answer)
         go q n u (no f) = passed_still q (w.passed q n (behind_next first m i p q l a n f u))
 
   -- every processor is passed over: so no placement may stand on the lowest, and on each that a lower one can stand in for
@@ -184,10 +179,8 @@ module _ {t : Table} {mode : Mode} {s : State} {k : ℕ} {old : List ℕ} {befor
         (λ v. swap_refuted fits v.2 (Bad (tasks_in t) mode.listing list at) k (refuted b v.0 (omega (arith, v.1, l)) (omega (arith, v.1, u))))
         (w.passed q u (behind_all first m i q u n (dec_le first q)))
 
-    pub backtracking_end : k < t.tasks.count → m ≡ t.processors.count → (sets : List ℕ) → BacktrackedIn t mode (standing s.on) old before list (record { found = false; none = true; on = sets; count = at })
-    backtracking_end l e sets = record {
+    pub backtracking_end : k < t.tasks.count → m ≡ t.processors.count → BacktrackedIn t mode (standing s.on) old before list (record { outcome = Nothing; count = at })
+    backtracking_end l e = record {
       list = w.list;
-      placement = λ f. absurd (false≢true f);
-      nothing = λ f. branch t (Bad (tasks_in t) mode.listing list at) (standing s.on) l (λ q u. refuted (q + 1) q (omega arith) (omega arith));
-      certain = λ y f. refl;
+      answer = branch t (Bad (tasks_in t) mode.listing list at) (standing s.on) l (λ q u. refuted (q + 1) q (omega arith) (omega arith));
     }

@@ -1,5 +1,5 @@
 -- What the functions of the search below a given partial placement leave.
-use Rattle.std.specs.Prelude.{◌≡◌, Bool, true, false, ◌⊎◌, List, ℕ, ◌<◌}
+use Rattle.std.specs.Prelude.{◌≡◌, Bool, true, ◌⊎◌, List, ℕ, ◌<◌}
 use Rattle.table.specs.declared.Table.{Table}
 use Rattle.rules.specs.Placement.{and_task}
 use Rattle.rules.specs.Sets.{standing}
@@ -10,14 +10,19 @@ use Rattle.partial.specs.declared.State.{State}
 use Rattle.region.specs.Region.{Within, Refuted, Met, Witness}
 use Rattle.symmetry.specs.Symmetry.{Interchangeable}
 use Rattle.backtrack.specs.declared.Backtracked.{Backtracked}
+use Rattle.backtrack.specs.declared.Outcome.{Outcome}
+use Rattle.backtrack.specs.declared.Outcome.TheVariants.{Found, Nothing, GaveUp}
 
--- the answer on the region of `on`: a placement all of whose sets may stand, or none, as `None` says of the list;
--- a search that is not limited answers one of them
+-- the answer on the region of `on`: a placement all of whose sets may stand, or none, as `None` says of the list; only a search that is limited gives up
+abbrev pub EndsAs : (List ℕ → ℕ → Type 0) → Table → Mode → (ℕ → ℕ → Bool) → List ℕ → ℕ → Outcome → Type 0
+EndsAs None t mode on list count (Found sets) = Witness t (Clear (tasks_in t) mode.listing list count) on sets
+EndsAs None t mode on list count Nothing = None list count
+EndsAs None t mode on list count GaveUp = mode.limited ≡ true
+
+-- the answer, and the list as it is then
 pub record BacktrackedAs (None : List ℕ → ℕ → Type 0) (t : Table) (mode : Mode) (on : ℕ → ℕ → Bool) (old : List ℕ) (before : ℕ) (new : List ℕ) (r : Backtracked) : Type 0 where
   pub list : Extended (Met t (Within on)) (tasks_in t) old before new r.count
-  pub placement : r.found ≡ true → Witness t (Clear (tasks_in t) mode.listing new r.count) on r.on
-  pub nothing : r.none ≡ true → None new r.count
-  pub certain : mode.limited ≡ false → r.found ≡ false → r.none ≡ true
+  pub answer : EndsAs None t mode on new r.count r.outcome
 
 -- no placement of the region may stand
 abbrev pub BacktrackedIn : Table → Mode → (ℕ → ℕ → Bool) → List ℕ → ℕ → List ℕ → Backtracked → Type 0

@@ -9,21 +9,23 @@ ghost use Rattle.region.specs.Given.{Given, Gives};
 ghost use Rattle.bound_cache.specs.BoundCache.{LearntOf};
 ghost use Rattle.backtrack.specs.Backtrack.{ExploredAs, BacktrackedIn};
 
-use bound_cache::BoundCache;
-use heuristics::{FUEL, Heuristics, NUMBERS};
-use late_cache::LateCache;
+use bound_cache::Caches;
+use heuristics::Heuristics;
 use nogoods::Mode;
-use partial::{Sizes, State};
-use rows::{BASE, Messages, Rows};
-use schedule::Timing;
+use partial::{Instance, State};
 
-// Whether a placement of a region was found, or none is known to be there; neither where the search gave up.
-// The tasks on each processor in the one that was found, and how many conflicts are listed then.
+// What the search of a region comes to: the tasks on each processor in a placement; that there is none; or that it gave up.
+#[derive(Clone, Copy)]
+pub enum Outcome {
+    Found([u32; 8]),
+    Nothing,
+    GaveUp,
+}
+
+// What the search of a region comes to, and how many conflicts are listed then.
 #[derive(Clone, Copy)]
 pub struct Backtracked {
-    pub found: bool,
-    pub none: bool,
-    pub on: [u32; 8],
+    pub outcome: Outcome,
     pub count: usize,
 }
 
@@ -35,11 +37,11 @@ fn gives_up(limited: bool, heuristics: &mut Heuristics) -> bool
     if !limited {
         return false;
     }
-    let fuel = heuristics[NUMBERS][FUEL];
+    let fuel = heuristics.guide.fuel;
     if fuel == 0 {
         return true;
     }
-    heuristics[NUMBERS][FUEL] = fuel - 1;
+    heuristics.guide.fuel = fuel - 1;
     false
 }
 
@@ -66,11 +68,8 @@ fn turned(first: usize, i: usize, m: usize) -> usize
 // The region below the open task k on processor p. It is passed over where nothing is listed and the task may not stand there,
 // and where a lower processor can stand in for p.
 #[cycle(backtrack_branch_explore)]
-fn explore<'a>(
-    timing: &'a Timing,
-    rows: &'a Rows,
-    messages: &'a Messages,
-    sizes: Sizes,
+fn explore(
+    instance: &Instance,
     s: State,
     k: usize,
     p: usize,
@@ -78,167 +77,123 @@ fn explore<'a>(
     list: &mut [u8],
     count: usize,
     heuristics: &mut Heuristics,
-    lateness: &mut LateCache,
-    bounds: &mut BoundCache,
+    caches: &mut Caches,
 ) -> Backtracked
-    requires { Given sizes timing.now rows.now messages.now (λ t. Begins t mode s list.old count) (λ t. LearntOf t list.old count rows.now lateness.old bounds.old)
-        × T (has s.left k) × (p < sizes.processors) }
-    ensures { Gives sizes timing.now rows.now messages.now
-        (λ t. Begins t mode s list.old count) (λ t. LearntOf t list.old count rows.now lateness.old bounds.old)
-        (λ t. ExploredAs t mode s k p list.old count list.new result × LearntOf t list.new result.count rows.now lateness.new bounds.new) }
+    requires { Given instance.now (λ t. Begins t mode s list.old count) (λ t. LearntOf t list.old count instance.now.rows caches.old.lateness caches.old.bounds)
+        × T (has s.left k) × (p < instance.now.sizes.processors) }
+    ensures { Gives instance.now
+        (λ t. Begins t mode s list.old count) (λ t. LearntOf t list.old count instance.now.rows caches.old.lateness caches.old.bounds)
+        (λ t. ExploredAs t mode s k p list.old count list.new result × LearntOf t list.new result.count instance.now.rows caches.new.lateness caches.new.bounds) }
 {
-    let on = s.on;
     if !mode.listing {
         if !mask::has(s.may[p], k) {
             return Backtracked {
-                found: false,
-                none: true,
-                on,
+                outcome: Outcome::Nothing,
                 count,
             };
         }
     }
-    if symmetry::representative(rows, s, p) != p {
+    if symmetry::representative(&instance.rows, s, p) != p {
         return Backtracked {
-            found: false,
-            none: true,
-            on,
+            outcome: Outcome::Nothing,
             count,
         };
     }
-    let entered = entering::enter(
-        timing, rows, messages, sizes, s, k, p, mode, list, count, lateness,
-    );
-    if !entered.passes {
+    let entered = entering::enter(instance, s, k, p, mode, list, count, &mut caches.lateness);
+    let Some(next) = entered.next else {
         return Backtracked {
-            found: false,
-            none: true,
-            on,
+            outcome: Outcome::Nothing,
             count: entered.count,
         };
-    }
-    let next = entered.next;
+    };
     backtrack(
-        timing,
-        rows,
-        messages,
-        sizes,
+        instance,
         next,
         mode,
         list,
         entered.count,
         heuristics,
-        lateness,
-        bounds,
+        caches,
     )
 }
 
 // The region below a state with open tasks: one of them by `pick`, on each processor in turn. One that no processor can take is blamed.
 #[cycle(backtrack_branch_explore)]
-fn branch<'a>(
-    timing: &'a Timing,
-    rows: &'a Rows,
-    messages: &'a Messages,
-    sizes: Sizes,
+fn branch(
+    instance: &Instance,
     s: State,
     mode: Mode,
     list: &mut [u8],
     count: usize,
     heuristics: &mut Heuristics,
-    lateness: &mut LateCache,
-    bounds: &mut BoundCache,
+    caches: &mut Caches,
 ) -> Backtracked
-    requires { Given sizes timing.now rows.now messages.now (λ t. Begins t mode s list.old count) (λ t. LearntOf t list.old count rows.now lateness.old bounds.old)
+    requires { Given instance.now (λ t. Begins t mode s list.old count) (λ t. LearntOf t list.old count instance.now.rows caches.old.lateness caches.old.bounds)
         × (0 < s.left) }
-    ensures { Gives sizes timing.now rows.now messages.now
-        (λ t. Begins t mode s list.old count) (λ t. LearntOf t list.old count rows.now lateness.old bounds.old)
-        (λ t. BacktrackedIn t mode (standing s.on) list.old count list.new result × LearntOf t list.new result.count rows.now lateness.new bounds.new) }
+    ensures { Gives instance.now
+        (λ t. Begins t mode s list.old count) (λ t. LearntOf t list.old count instance.now.rows caches.old.lateness caches.old.bounds)
+        (λ t. BacktrackedIn t mode (standing s.on) list.old count list.new result × LearntOf t list.new result.count instance.now.rows caches.new.lateness caches.new.bounds) }
 {
-    let on = s.on;
     let may = s.may;
-    let k = branching::pick(&rows[BASE], sizes.processors, s.left, &may, heuristics);
-    let first = offset(sizes.processors, heuristics);
+    let k = branching::pick(
+        &instance.rows.base,
+        instance.sizes.processors,
+        s.left,
+        &may,
+        heuristics,
+    );
+    let first = offset(instance.sizes.processors, heuristics);
     let mut at = count;
-    let mut i: usize = 0;
-    while i < sizes.processors {
-        let p = turned(first, i, sizes.processors);
-        let outcome = explore(
-            timing, rows, messages, sizes, s, k, p, mode, list, at, heuristics, lateness, bounds,
-        );
-        if !outcome.none {
-            return outcome;
-        }
-        at = outcome.count;
-        i += 1;
+    for i in 0..instance.sizes.processors {
+        let p = turned(first, i, instance.sizes.processors);
+        let explored = explore(instance, s, k, p, mode, list, at, heuristics, caches);
+        let Outcome::Nothing = explored.outcome else {
+            return explored;
+        };
+        at = explored.count;
     }
     heuristics::blame(heuristics, k);
     Backtracked {
-        found: false,
-        none: true,
-        on,
+        outcome: Outcome::Nothing,
         count: at,
     }
 }
 
 // The region below a state: the placement at hand where no task is open, nothing where the bound gives the region up, else its branches.
 #[cycle(backtrack_branch_explore)]
-pub fn backtrack<'a>(
-    timing: &'a Timing,
-    rows: &'a Rows,
-    messages: &'a Messages,
-    sizes: Sizes,
+pub fn backtrack(
+    instance: &Instance,
     s: State,
     mode: Mode,
     list: &mut [u8],
     count: usize,
     heuristics: &mut Heuristics,
-    lateness: &mut LateCache,
-    bounds: &mut BoundCache,
+    caches: &mut Caches,
 ) -> Backtracked
-    requires { Given sizes timing.now rows.now messages.now (λ t. Begins t mode s list.old count) (λ t. LearntOf t list.old count rows.now lateness.old bounds.old) }
-    ensures { Gives sizes timing.now rows.now messages.now
-        (λ t. Begins t mode s list.old count) (λ t. LearntOf t list.old count rows.now lateness.old bounds.old)
-        (λ t. BacktrackedIn t mode (standing s.on) list.old count list.new result × LearntOf t list.new result.count rows.now lateness.new bounds.new) }
+    requires { Given instance.now (λ t. Begins t mode s list.old count) (λ t. LearntOf t list.old count instance.now.rows caches.old.lateness caches.old.bounds) }
+    ensures { Gives instance.now
+        (λ t. Begins t mode s list.old count) (λ t. LearntOf t list.old count instance.now.rows caches.old.lateness caches.old.bounds)
+        (λ t. BacktrackedIn t mode (standing s.on) list.old count list.new result × LearntOf t list.new result.count instance.now.rows caches.new.lateness caches.new.bounds) }
 {
-    let on = s.on;
     if gives_up(mode.limited, heuristics) {
         return Backtracked {
-            found: false,
-            none: false,
-            on,
+            outcome: Outcome::GaveUp,
             count,
         };
     }
     if s.left == 0 {
+        let on = s.on;
         return Backtracked {
-            found: true,
-            none: false,
-            on,
+            outcome: Outcome::Found(on),
             count,
         };
     }
-    let bounded = bound::bound(
-        timing, rows, messages, sizes, s, mode, list, count, heuristics, lateness, bounds,
-    );
+    let bounded = bound::bound(instance, s, mode, list, count, heuristics, caches);
     if bounded.hopeless {
         return Backtracked {
-            found: false,
-            none: true,
-            on,
+            outcome: Outcome::Nothing,
             count: bounded.count,
         };
     }
-    branch(
-        timing,
-        rows,
-        messages,
-        sizes,
-        s,
-        mode,
-        list,
-        bounded.count,
-        heuristics,
-        lateness,
-        bounds,
-    )
+    branch(instance, s, mode, list, bounded.count, heuristics, caches)
 }

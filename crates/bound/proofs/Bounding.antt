@@ -1,6 +1,6 @@
 -- The bound by the network, and after the candidates. Assumes nothing.
 use mathlib.Core.Path.{◌≡◌, sym, subst, ◌∙◌}
-use mathlib.Core.Bool.{Bool, true, false, true≢false}
+use mathlib.Core.Bool.{Bool, true, false, true≢false, false≢true}
 use mathlib.Core.List.{List}
 use Prim.Native.Nat.{ℕ, ◌<◌}
 use native.Mathlib.Omega.{arith}
@@ -46,6 +46,11 @@ bounded_from a b u v = record { list = extended_trans u.list v.list; answer = v.
 pub bounded_first : {t : Table} (mode : Mode) {s : State} {old new : List ℕ} {before : ℕ} (a : Bounded) → BoundedAs t (quiet mode.limited) s old before new a → a.hopeless ≡ false
     → BoundedAs t mode s old before new a
 bounded_first mode a u e = record { list = u.list; answer = λ h. absurd (true≢false (sym h ∙ e)) }
+
+-- a bound that does not give the region up
+pub bounded_open : {t : Table} {mode : Mode} {s : State} {old new : List ℕ} {before : ℕ} (a : Bounded) → BoundedAs t mode s old before new a
+    → BoundedAs t mode s old before new (record { hopeless = false; count = a.count })
+bounded_open a u = record { list = u.list; answer = λ e. absurd (false≢true e) }
 
 -- where nothing is listed, the candidates are those that the state keeps
 pub narrowed_weighable : {t : Table} (mode : Mode) {s : State} {list : List ℕ} {count : ℕ} → Begins t mode s list count → mode.listing ≡ false → Weighable t mode s s.may list count

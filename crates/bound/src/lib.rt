@@ -7,96 +7,93 @@ ghost use Rattle.region.specs.Given.{Given, Gives};
 ghost use Rattle.bound_cache.specs.BoundCache.{LearntOf};
 ghost use Rattle.capacity_bound.specs.Bound.{BoundedAs};
 ghost use Rattle.capacity_bound.specs.CapacityBound.{Weighable};
+ghost use Rattle.rows.specs.Rows.{weights_in};
 ghost use Rattle.bound.specs.Due.{adapts, is_due, asked_heuristics, credit_after, tried_heuristics, bound_heuristics, AdaptedAs};
 
-use bound_cache::BoundCache;
+use bound_cache::Caches;
 use capacity_bound::Bounded;
-use heuristics::{CREDIT, Heuristics, NUMBERS, SKIPS, WEIGHTED};
-use late_cache::LateCache;
+use heuristics::Heuristics;
+use knapsack::Weighting;
 use nogoods::Mode;
-use partial::{Sizes, State};
-use rows::{EXCLUSIONS, LOAD, Messages, ORDER, Rows};
-use schedule::Timing;
+use partial::{Instance, State};
+use rows::{Measure, Rows};
 
-// The bound by the weights of each row in turn.
-fn by_rows<'a>(
-    timing: &'a Timing,
-    rows: &'a Rows,
-    messages: &'a Messages,
-    sizes: Sizes,
+// The weights of the tasks by load, by memory, or by both.
+fn weights_in(rows: &Rows, measure: Measure) -> &[u32; 24]
+    ensures { result.now ≡ weights_in rows.now measure }
+{
+    match measure {
+        Measure::Load => &rows.load,
+        Measure::Memory => &rows.memory,
+        _ => &rows.weight,
+    }
+}
+
+// The bound by the weights of each measure in turn.
+fn by_rows(
+    instance: &Instance,
     s: State,
     sets: [u32; 8],
     mode: Mode,
     list: &mut [u8],
     count: usize,
-    lateness: &mut LateCache,
-    bounds: &mut BoundCache,
+    caches: &mut Caches,
 ) -> Bounded
-    requires { Given sizes timing.now rows.now messages.now
-        (λ t. Weighable t mode s sets list.old count) (λ t. LearntOf t list.old count rows.now lateness.old bounds.old) }
-    ensures { Gives sizes timing.now rows.now messages.now
-        (λ t. Weighable t mode s sets list.old count) (λ t. LearntOf t list.old count rows.now lateness.old bounds.old)
-        (λ t. BoundedAs t mode s list.old count list.new result × LearntOf t list.new result.count rows.now lateness.new bounds.new) }
+    requires { Given instance.now
+        (λ t. Weighable t mode s sets list.old count) (λ t. LearntOf t list.old count instance.now.rows caches.old.lateness caches.old.bounds) }
+    ensures { Gives instance.now
+        (λ t. Weighable t mode s sets list.old count) (λ t. LearntOf t list.old count instance.now.rows caches.old.lateness caches.old.bounds)
+        (λ t. BoundedAs t mode s list.old count list.new result × LearntOf t list.new result.count instance.now.rows caches.new.lateness caches.new.bounds) }
 {
-    let mut hopeless = false;
+    let rows = &instance.rows;
     let mut listed = count;
-    let mut row: usize = 0;
-    while row < 3 && !hopeless {
+    for measure in [Measure::Load, Measure::Memory, Measure::Both] {
+        let weights = *weights_in(rows, measure);
+        let order = rows.order;
+        let weighting = Weighting {
+            weights,
+            order,
+            measure,
+        };
         let weighed = capacity_bound::weigh(
-            timing,
-            rows,
-            messages,
-            &rows[LOAD + row],
-            &rows[ORDER],
-            row,
-            sizes,
-            s,
-            sets,
-            mode,
-            list,
-            listed,
-            lateness,
-            bounds,
+            instance, &weighting, s, sets, mode, list, listed, caches,
         );
         let bounded = weighed.bounded;
-        hopeless = bounded.hopeless;
+        if bounded.hopeless {
+            return bounded;
+        }
         listed = bounded.count;
-        row += 1;
     }
     Bounded {
-        hopeless,
+        hopeless: false,
         count: listed,
     }
 }
 
 // The bound by the network, then by weights: in a weighted run such that adapt to the region, else those of the rows.
-fn try_all<'a>(
-    timing: &'a Timing,
-    rows: &'a Rows,
-    messages: &'a Messages,
-    sizes: Sizes,
+fn try_all(
+    instance: &Instance,
     s: State,
     sets: [u32; 8],
     mode: Mode,
     list: &mut [u8],
     count: usize,
     heuristics: &mut Heuristics,
-    lateness: &mut LateCache,
-    bounds: &mut BoundCache,
+    caches: &mut Caches,
 ) -> Bounded
-    requires { Given sizes timing.now rows.now messages.now (λ t. Weighable t mode s sets list.old count) (λ t. LearntOf t list.old count rows.now lateness.old bounds.old) }
-    ensures { Gives sizes timing.now rows.now messages.now
-        (λ t. Weighable t mode s sets list.old count) (λ t. LearntOf t list.old count rows.now lateness.old bounds.old)
-        (λ t. BoundedAs t mode s list.old count list.new result × LearntOf t list.new result.count rows.now lateness.new bounds.new)
+    requires { Given instance.now (λ t. Weighable t mode s sets list.old count) (λ t. LearntOf t list.old count instance.now.rows caches.old.lateness caches.old.bounds) }
+    ensures { Gives instance.now
+        (λ t. Weighable t mode s sets list.old count) (λ t. LearntOf t list.old count instance.now.rows caches.old.lateness caches.old.bounds)
+        (λ t. BoundedAs t mode s list.old count list.new result × LearntOf t list.new result.count instance.now.rows caches.new.lateness caches.new.bounds)
         × AdaptedAs (adapts heuristics.old) s.left heuristics.old heuristics.new }
 {
     let remote = network_bound::crossing(
-        &rows[EXCLUSIONS],
-        messages,
-        sizes.messages,
+        &instance.rows.exclusions,
+        &instance.messages,
+        instance.sizes.messages,
         s,
         sets,
-        sizes.processors,
+        instance.sizes.processors,
     );
     if s.traffic < remote {
         return Bounded {
@@ -104,53 +101,46 @@ fn try_all<'a>(
             count,
         };
     }
-    if heuristics[NUMBERS][WEIGHTED] != 0 {
-        return adaptive_bound::refute(
-            timing, rows, messages, sizes, s, sets, mode, list, count, heuristics, lateness, bounds,
-        );
+    if heuristics.guide.weighted {
+        return adaptive_bound::refute(instance, s, sets, mode, list, count, heuristics, caches);
     }
-    by_rows(
-        timing, rows, messages, sizes, s, sets, mode, list, count, lateness, bounds,
-    )
+    by_rows(instance, s, sets, mode, list, count, caches)
 }
 
 // The bound with the candidates that a test of every open task leaves.
-fn try_tested<'a>(
-    timing: &'a Timing,
-    rows: &'a Rows,
-    messages: &'a Messages,
-    sizes: Sizes,
+fn try_tested(
+    instance: &Instance,
     s: State,
     mode: Mode,
     list: &mut [u8],
     count: usize,
     heuristics: &mut Heuristics,
-    lateness: &mut LateCache,
-    bounds: &mut BoundCache,
+    caches: &mut Caches,
 ) -> Bounded
-    requires { Given sizes timing.now rows.now messages.now (λ t. Opens t s list.old count) (λ t. LearntOf t list.old count rows.now lateness.old bounds.old) }
-    ensures { Gives sizes timing.now rows.now messages.now
-        (λ t. Opens t s list.old count) (λ t. LearntOf t list.old count rows.now lateness.old bounds.old)
-        (λ t. BoundedAs t mode s list.old count list.new result × LearntOf t list.new result.count rows.now lateness.new bounds.new)
+    requires { Given instance.now (λ t. Opens t s list.old count) (λ t. LearntOf t list.old count instance.now.rows caches.old.lateness caches.old.bounds) }
+    ensures { Gives instance.now
+        (λ t. Opens t s list.old count) (λ t. LearntOf t list.old count instance.now.rows caches.old.lateness caches.old.bounds)
+        (λ t. BoundedAs t mode s list.old count list.new result × LearntOf t list.new result.count instance.now.rows caches.new.lateness caches.new.bounds)
         × AdaptedAs (adapts heuristics.old) s.left heuristics.old heuristics.new }
 {
     let candidates = candidates::candidates_of(
-        timing, rows, messages, sizes, s, mode, list, count, lateness,
+        instance,
+        s,
+        mode,
+        list,
+        count,
+        &mut caches.lateness,
     );
     let sets = candidates.sets;
     try_all(
-        timing,
-        rows,
-        messages,
-        sizes,
+        instance,
         s,
         sets,
         mode,
         list,
         candidates.count,
         heuristics,
-        lateness,
-        bounds,
+        caches,
     )
 }
 
@@ -161,11 +151,11 @@ fn due(left: u32, heuristics: &mut Heuristics) -> bool
     if u32::count_ones(left) < 4 {
         return false;
     }
-    if heuristics[NUMBERS][WEIGHTED] != 0 || heuristics[NUMBERS][CREDIT] != 0 {
+    if heuristics.guide.weighted || heuristics.guide.credit != 0 {
         return true;
     }
-    let skips = (heuristics[NUMBERS][SKIPS] % 32 + 1) % 32;
-    heuristics[NUMBERS][SKIPS] = skips;
+    let skips = (heuristics.guide.skips % 32 + 1) % 32;
+    heuristics.guide.skips = skips;
     skips == 0
 }
 
@@ -189,31 +179,27 @@ fn credit(before: u32, hopeless: bool) -> u32
 fn note(heuristics: &mut Heuristics, hopeless: bool)
     ensures { heuristics.new ≡ tried_heuristics hopeless heuristics.old }
 {
-    if heuristics[NUMBERS][WEIGHTED] == 0 {
-        heuristics[NUMBERS][CREDIT] = credit(heuristics[NUMBERS][CREDIT], hopeless);
+    if !heuristics.guide.weighted {
+        heuristics.guide.credit = credit(heuristics.guide.credit, hopeless);
     }
 }
 
 // A bound on the region below a state: whether it can be given up at once, and how many conflicts are listed then.
 // Where nothing is listed, the candidates are those that the state keeps.
 // Where conflicts are listed, every open task is tested: the bound is tried without listing first, and again where that gives the region up.
-pub fn bound<'a>(
-    timing: &'a Timing,
-    rows: &'a Rows,
-    messages: &'a Messages,
-    sizes: Sizes,
+pub fn bound(
+    instance: &Instance,
     s: State,
     mode: Mode,
     list: &mut [u8],
     count: usize,
     heuristics: &mut Heuristics,
-    lateness: &mut LateCache,
-    bounds: &mut BoundCache,
+    caches: &mut Caches,
 ) -> Bounded
-    requires { Given sizes timing.now rows.now messages.now (λ t. Begins t mode s list.old count) (λ t. LearntOf t list.old count rows.now lateness.old bounds.old) }
-    ensures { Gives sizes timing.now rows.now messages.now
-        (λ t. Begins t mode s list.old count) (λ t. LearntOf t list.old count rows.now lateness.old bounds.old)
-        (λ t. BoundedAs t mode s list.old count list.new result × LearntOf t list.new result.count rows.now lateness.new bounds.new)
+    requires { Given instance.now (λ t. Begins t mode s list.old count) (λ t. LearntOf t list.old count instance.now.rows caches.old.lateness caches.old.bounds) }
+    ensures { Gives instance.now
+        (λ t. Begins t mode s list.old count) (λ t. LearntOf t list.old count instance.now.rows caches.old.lateness caches.old.bounds)
+        (λ t. BoundedAs t mode s list.old count list.new result × LearntOf t list.new result.count instance.now.rows caches.new.lateness caches.new.bounds)
         × AdaptedAs (adapts heuristics.old) s.left (bound_heuristics s.left result.hopeless heuristics.old) heuristics.new }
 {
     if !due(s.left, heuristics) {
@@ -224,9 +210,7 @@ pub fn bound<'a>(
     }
     if !mode.listing {
         let may = s.may;
-        let only = try_all(
-            timing, rows, messages, sizes, s, may, mode, list, count, heuristics, lateness, bounds,
-        );
+        let only = try_all(instance, s, may, mode, list, count, heuristics, caches);
         note(heuristics, only.hopeless);
         return only;
     }
@@ -234,26 +218,12 @@ pub fn bound<'a>(
         listing: false,
         limited: mode.limited,
     };
-    let first = try_tested(
-        timing, rows, messages, sizes, s, quiet, list, count, heuristics, lateness, bounds,
-    );
+    let first = try_tested(instance, s, quiet, list, count, heuristics, caches);
     if !first.hopeless {
         note(heuristics, first.hopeless);
         return first;
     }
-    let second = try_tested(
-        timing,
-        rows,
-        messages,
-        sizes,
-        s,
-        mode,
-        list,
-        first.count,
-        heuristics,
-        lateness,
-        bounds,
-    );
+    let second = try_tested(instance, s, mode, list, first.count, heuristics, caches);
     note(heuristics, second.hopeless);
     second
 }

@@ -1,40 +1,51 @@
 -- What the table of bounds says: at first nothing; what is found in it; with one entry written anew. Assumes nothing.
 use mathlib.Core.Path.{◌≡◌, refl, sym, ap, subst, ◌∙◌}
-use mathlib.Core.Logic.{◌≢◌}
-use mathlib.Core.Bool.{Bool, true}
-use mathlib.Core.List.{List, [], ◌∷◌}
-use Prim.Native.Nat.{ℕ, zero, suc, ◌+◌, ◌*◌, ◌≤◌, ◌<◌}
+use mathlib.Core.Bool.{Bool, true, false, cond, false≢true}
+use mathlib.Core.List.{List}
+use Prim.Native.Nat.{ℕ, ◌≤◌, ◌<◌}
 use native.Mathlib.Decide.{ℕ_discrete}
 use native.Mathlib.Omega.{arith}
 use lib.Dec.{T, eqb, eqb→eq}
-use lib.ListN.{length, get_or, set, replicate, length-set, length-replicate}
+use lib.ListN.{get_or, set, replicate, length-set, length-replicate}
 use lib.Seq.{get_or-set_same, get_or-set_other}
-use Rattle.finite.proofs.Stored.{zeros}
-use Rattle.mask.specs.Mask.{has, Subset, sum_over}
+use Rattle.std.proofs.lemmas.List.{get_or-replicate}
+use Rattle.std.specs.Prelude.{Option, Some, None}
+use Rattle.mask.specs.Mask.{Subset, sum_over}
 use Rattle.mask.proofs.Laws.{sum_none, sum_subset}
 use Rattle.mask.proofs.Tests.{and_left, and_right}
 use Rattle.table.specs.declared.Table.{Table}
 use Rattle.timing.specs.Timing.{tasks_in}
 use Rattle.late_cache.specs.LateCache.{LateCache}
 use Rattle.nogoods.proofs.Covers.{known_forgot}
-use Rattle.bound_cache.specs.declared.Recalled.{Recalled}
-use Rattle.bound_cache.specs.BoundCache.{Capped, Entry, BoundCache, Learnt, LearntOf, entry_of, is_for, recall_of, keep_of}
+use Rattle.bound_cache.specs.declared.Key.{Key}
+use Rattle.bound_cache.specs.declared.Entry.{Entry}
+use Rattle.bound_cache.specs.BoundCache.{Capped, empty, BoundCache, Learnt, LearntOf, number_of, entry_of, same_key, recall_of, keep_of}
+use Rattle.rows.specs.declared.Measure.{Measure}
+use Rattle.rows.specs.declared.Measure.TheVariants.{Load, Memory, Both, Other}
+use Rattle.rows.specs.declared.Rows.{Rows}
 
--- an entry of zeros has no candidates
-zeros_cap : {t : Table} {rows : List (List ℕ)} (n j : ℕ) → Entry t rows (replicate n 0) j
-zeros_cap n j = record { bounds = λ x w f. none _ x _ (λ k u. subst (λ (m : ℕ). T (has m k)) (zeros n (j + 1)) (f k u)) }
+-- what an entry says
+abbrev Says : Table → Rows → Entry → Type 0
+Says t rows entry = Capped t rows entry.key entry.top
+
+-- an empty entry has no candidates
+empty_cap : {t : Table} {rows : Rows} → Capped t rows empty.key empty.top
+empty_cap = record { bounds = λ x w f. none _ x _ f }
   where
-    none : (m x : ℕ) (g : ℕ → ℕ) {top : ℕ} → Subset x 0 → sum_over m x g ≤ top
-    none m x g f = omega (arith, sum_subset m x 0 g f, sum_none m g)
+    none : (n x : ℕ) (g : ℕ → ℕ) → Subset x 0 → sum_over n x g ≤ 0
+    none n x g f = omega (arith, sum_subset n x 0 g f, sum_none n g)
 
-pub bound_cache_start : {t : Table} {rows : List (List ℕ)} → BoundCache t rows (replicate 12288 0)
-bound_cache_start = record { long = length-replicate {A = ℕ} 12288 0; entries = λ j l. zeros_cap 12288 (6 * j) }
+all_empty : {t : Table} {rows : Rows} (n j : ℕ) → j < n → Says t rows (get_or (replicate n empty) j empty)
+all_empty {t} {rows} n j l = subst (Says t rows) (sym (get_or-replicate n j empty empty l)) empty_cap
 
-pub learnt_start : {t : Table} {rows : List (List ℕ)} {lateness : List ℕ} → LateCache (tasks_in t) lateness → Learnt t rows lateness (replicate 12288 0)
+pub bound_cache_start : {t : Table} {rows : Rows} → BoundCache t rows (replicate 2048 empty)
+bound_cache_start = record { long = length-replicate {A = Entry} 2048 empty; entries = all_empty 2048 }
+
+pub learnt_start : {t : Table} {rows : Rows} {lateness : List ℕ} → LateCache (tasks_in t) lateness → Learnt t rows lateness (replicate 2048 empty)
 learnt_start k = record { knows = k; keeps = bound_cache_start }
 
 -- beside a list: any, once the table of covered sets was given up
-module _ {t : Table} {list : List ℕ} {count : ℕ} {rows : List (List ℕ)} {bounds : List ℕ} where
+module _ {t : Table} {list : List ℕ} {count : ℕ} {rows : Rows} {bounds : List Entry} where
   pub learnt_forgot : {old lateness : List ℕ} → Learnt t rows old bounds → lateness ≡ set old 81920 0 → LearntOf t list count rows lateness bounds
   learnt_forgot k e = record { knows = known_forgot k.knows e list count; keeps = k.keeps }
 
@@ -43,80 +54,65 @@ module _ {t : Table} {list : List ℕ} {count : ℕ} {rows : List (List ℕ)} {b
 
 -- ---- what is found
 
-entry_low : (on candidates row space : ℕ) → entry_of on candidates row space < 2048
+entry_low : (key : Key) → entry_of key < 2048
 unfolding entry_of
-entry_low on candidates row space = omega arith
+entry_low key = omega arith
 
-pub recalled : {t : Table} {rows : List (List ℕ)} {bounds : List ℕ} {on candidates row space spare : ℕ} {r : Recalled} → BoundCache t rows bounds → r ≡ recall_of bounds on candidates row space spare
-    → r.hit ≡ true → Capped t rows on candidates row space spare r.top
-unfolding is_for
-recalled {t} {rows} {bounds} {on} {candidates} {row} {space} {spare} {r} m e hit = rw e (found (rw (← ap (λ (x : Recalled). x.hit) e, hit) tt))
+-- a measure by its number
+abbrev measure_at : ℕ → Measure
+measure_at n = cond (eqb n 0) Load (cond (eqb n 1) Memory (cond (eqb n 2) Both Other))
+
+measure_there : (a : Measure) → measure_at (number_of a) ≡ a
+measure_there Load = refl
+measure_there Memory = refl
+measure_there Both = refl
+measure_there Other = refl
+
+same_measures : (a b : Measure) → T (eqb (number_of a) (number_of b)) → a ≡ b
+same_measures a b u = sym (measure_there a) ∙ ap measure_at (eqb→eq (number_of a) (number_of b) u) ∙ measure_there b
+
+same_keys : (a b : Key) → T (same_key a b) → a ≡ b
+same_keys a b u =
+    let v = and_right (eqb a.on b.on) _ u in
+    let w = and_right (eqb a.candidates b.candidates) _ v in
+    let x = and_right (eqb (number_of a.measure) (number_of b.measure)) _ w in
+    built (eqb→eq a.on b.on (and_left (eqb a.on b.on) _ u)) (eqb→eq a.candidates b.candidates (and_left (eqb a.candidates b.candidates) _ v))
+    (same_measures a.measure b.measure (and_left (eqb (number_of a.measure) (number_of b.measure)) _ w)) (eqb→eq a.space b.space (and_left (eqb a.space b.space) _ x))
+    (eqb→eq a.spare b.spare (and_right (eqb a.space b.space) _ x))
   where
-    j : ℕ
-    j = entry_of on candidates row space
+    built : {on on' candidates candidates' space space' spare spare' : ℕ} {measure measure' : Measure} → on ≡ on' → candidates ≡ candidates' → measure ≡ measure' → space ≡ space'
+        → spare ≡ spare' → ◌≡◌ {A = Key} (record { on = on; candidates = candidates; measure = measure; space = space; spare = spare })
+        (record { on = on'; candidates = candidates'; measure = measure'; space = space'; spare = spare' })
+    built d e f g h = rw (d, e, f, g, h) refl
 
-    at : ℕ → ℕ → Bool
-    at k v = eqb (get_or bounds (6 * j + k) 0) v
+abbrev value : Option ℕ → ℕ
+value (Some x) = x
+value None = 0
 
-    found : T (is_for bounds (6 * j) on candidates row space spare) → Capped t rows on candidates row space spare (get_or bounds (6 * j + 5) 0)
-    found u =
-        let v = and_right (eqb (get_or bounds (6 * j) 0) on) _ u in
-        let w = and_right (at 1 candidates) _ v in
-        let x = and_right (at 2 row) _ w in
-        rw (
-          eqb→eq _ on (and_left (eqb (get_or bounds (6 * j) 0) on) _ u),
-          eqb→eq _ candidates (and_left (at 1 candidates) _ v),
-          eqb→eq _ row (and_left (at 2 row) _ w),
-          eqb→eq _ space (and_left (at 3 space) _ x),
-          eqb→eq _ spare (and_right (at 3 space) _ x),
-        ) at (m.entries j (entry_low on candidates row space))
+abbrev some : Option ℕ → Bool
+some (Some x) = true
+some None = false
+
+-- what is found was kept
+hit : (b : Bool) (kept top : ℕ) → cond b (Some kept) None ≡ Some top → T b × (kept ≡ top)
+hit true kept top e = (tt, ap value e)
+hit false kept top e = absurd (false≢true (ap some e))
+
+pub recalled : {t : Table} {rows : Rows} {bounds : List Entry} {key : Key} {top : ℕ} → BoundCache t rows bounds → recall_of bounds key ≡ Some top → Capped t rows key top
+recalled {t} {rows} {bounds} {key} {top} m e =
+    let entry = get_or bounds (entry_of key) empty in
+    let h = hit (same_key entry.key key) entry.top top e in
+    subst (λ (x : Key). Capped t rows x top) (same_keys entry.key key h.0) (subst (Capped t rows entry.key) h.1 (m.entries (entry_of key) (entry_low key)))
 
 -- ---- one entry written anew
 
--- the numbers vs stored one after another, from the i-th place after `start` on
-abbrev stored : List ℕ → ℕ → ℕ → List ℕ → List ℕ
-stored bounds start i [] = bounds
-stored bounds start i (v ∷ vs) = stored (set bounds (start + i) v) start (suc i) vs
-
-stored_other : (vs bounds : List ℕ) (start i x : ℕ) → ((k : ℕ) → k < length vs → x ≢ start + (i + k)) → get_or (stored bounds start i vs) x 0 ≡ get_or bounds x 0
-stored_other [] bounds start i x f = refl
-stored_other (v ∷ vs) bounds start i x f =
-    stored_other vs (set bounds (start + i) v) start (suc i) x (λ k l e. f (suc k) (omega arith) (omega arith)) ∙ get_or-set_other bounds (start + i) x v 0 (λ e. f 0 (omega arith) (omega arith))
-
-stored_same : (vs bounds : List ℕ) (start i k x : ℕ) → k < length vs → x ≡ start + (i + k) → x < length bounds → get_or (stored bounds start i vs) x 0 ≡ get_or vs k 0
-stored_same [] bounds start i k x l e h = absurd (omega arith)
-stored_same (v ∷ vs) bounds start i zero x l e h =
-    let here : start + i ≡ x = omega arith in
-    stored_other vs (set bounds (start + i) v) start (suc i) x (λ k _ o. omega arith) ∙ subst (λ (y : ℕ). get_or (set bounds y v) x 0 ≡ v) (sym here) (get_or-set_same bounds x v 0 h)
-stored_same (v ∷ vs) bounds start i (suc k) x l e h = stored_same vs (set bounds (start + i) v) start (suc i) k x (omega arith) (omega arith) (simp length-set h)
-
-pub bound_cache_keep : {t : Table} {rows : List (List ℕ)} {bounds : List ℕ} (on candidates row space spare top : ℕ) → BoundCache t rows bounds → Capped t rows on candidates row space spare top
-    → BoundCache t rows (keep_of bounds on candidates row space spare top)
-bound_cache_keep {t} {rows} {bounds} on candidates row space spare top m c = record { long = simp length-set m.long; entries = λ i l. go i l (ℕ_discrete i j) }
+pub bound_cache_keep : {t : Table} {rows : Rows} {bounds : List Entry} (key : Key) (top : ℕ) → BoundCache t rows bounds → Capped t rows key top → BoundCache t rows (keep_of bounds key top)
+bound_cache_keep {t} {rows} {bounds} key top m c = record { long = simp length-set m.long; entries = λ i l. go i l (ℕ_discrete i (entry_of key)) }
   where
-    j : ℕ
-    j = entry_of on candidates row space
+    new : Entry
+    new = record { key = key; top = top }
 
-    low : j < 2048
-    low = entry_low on candidates row space
-
-    numbers : List ℕ
-    numbers = candidates ∷ row ∷ space ∷ spare ∷ top ∷ []
-
-    new : List ℕ
-    new = stored (set bounds (6 * j) on) (6 * j) 1 numbers
-
-    same : (k : ℕ) → k < 5 → get_or new (6 * j + (1 + k)) 0 ≡ get_or numbers k 0
-    same k l = stored_same numbers (set bounds (6 * j) on) (6 * j) 1 k _ l refl (simp length-set (omega (arith, low)))
-
-    same_on : get_or new (6 * j) 0 ≡ on
-    same_on = stored_other numbers (set bounds (6 * j) on) (6 * j) 1 (6 * j) (λ k l e. omega arith) ∙ get_or-set_same bounds (6 * j) on 0 (omega (arith, low))
-
-    other : (i x : ℕ) → i ≢ j → 6 * i ≤ x → x < 6 * i + 6 → get_or new x 0 ≡ get_or bounds x 0
-    other i x d l h = stored_other numbers (set bounds (6 * j) on) (6 * j) 1 x (λ k u e. d (omega arith)) ∙ get_or-set_other bounds (6 * j) x on 0 (λ e. d (omega arith))
-
-    go : (i : ℕ) → i < 2048 → Dec (i ≡ j) → Entry t rows new (6 * i)
-    go i l (yes e) = rw (e, same_on, same 0 (omega arith), same 1 (omega arith), same 2 (omega arith), same 3 (omega arith), same 4 (omega arith)) c
-    go i l (no d) =
-        let kept : (k : ℕ) → k < 6 → get_or new (6 * i + k) 0 ≡ get_or bounds (6 * i + k) 0 = λ k h. other i (6 * i + k) d (omega arith) (omega arith) in
-        rw (other i (6 * i) d (omega arith) (omega arith), kept 1 (omega arith), kept 2 (omega arith), kept 3 (omega arith), kept 4 (omega arith), kept 5 (omega arith)) (m.entries i l)
+    go : (i : ℕ) → i < 2048 → Dec (i ≡ entry_of key) → Says t rows (get_or (set bounds (entry_of key) new) i empty)
+    go i l (yes e) = subst (λ (x : ℕ). Says t rows (get_or (set bounds (entry_of key) new) x empty)) (sym e)
+        (subst (Says t rows) (sym (get_or-set_same bounds (entry_of key) new empty (omega (arith, m.long, entry_low key)))) c)
+    go i l (no d) = subst (Says t rows) (sym (get_or-set_other bounds (entry_of key) i new empty d)) (m.entries i l)

@@ -1,5 +1,5 @@
 -- What is kept of the bounds on what a processor can take, and of the sets known late: what the search has learnt.
-use Rattle.std.specs.Prelude.{◌≡◌, Bool, ◌&&◌, List, ℕ, ◌+◌, ◌*◌, ◌/◌, ◌%◌, ◌≤◌, ◌<◌, eqb, length, get_or, set}
+use Rattle.std.specs.Prelude.{◌≡◌, Bool, ◌&&◌, cond, List, Option, Some, None, ℕ, ◌+◌, ◌*◌, ◌/◌, ◌%◌, ◌≤◌, ◌<◌, eqb, length, get_or, set}
 use Rattle.mask.specs.Mask.{Subset}
 use Rattle.table.specs.declared.Table.{Table}
 use Rattle.schedule.specs.Periodic.{LateSet}
@@ -8,51 +8,58 @@ use Rattle.rows.specs.Rows.{loads_of, exclusions_of, weights_in}
 use Rattle.late_cache.specs.LateCache.{LateCache}
 use Rattle.nogoods.specs.Nogoods.{KnownSets}
 use Rattle.knapsack.specs.Knapsack.{weight_of, Takes}
-use Rattle.bound_cache.specs.declared.Recalled.{Recalled}
+use Rattle.bound_cache.specs.declared.Key.{Key}
+use Rattle.bound_cache.specs.declared.Entry.{Entry}
+use Rattle.rows.specs.declared.Rows.{Rows}
+use Rattle.rows.specs.declared.Measure.{Measure}
+use Rattle.rows.specs.declared.Measure.TheVariants.{Load, Memory, Both, Other}
 
--- top bounds the weight, by a row of weights, of the candidates that can join the tasks on a processor with that much memory (space) and load (spare) left
-pub record Capped (t : Table) (rows : List (List ℕ)) (on candidates row space spare top : ℕ) : Type 0 where
-  pub bounds : (x : ℕ) → Takes t.tasks.count t.tasks.memory (exclusions_of t) (loads_of t) (LateSet (tasks_in t)) on space spare x → Subset x candidates
-      → weight_of t.tasks.count (weights_in rows row) x ≤ top
+-- top bounds the weight, by their measure, of the candidates that can join the tasks on a processor with that much memory (space) and load (spare) left
+pub record Capped (t : Table) (rows : Rows) (key : Key) (top : ℕ) : Type 0 where
+  pub bounds : (x : ℕ) → Takes t.tasks.count t.tasks.memory (exclusions_of t) (loads_of t) (LateSet (tasks_in t)) key.on key.space key.spare x → Subset x key.candidates
+      → weight_of t.tasks.count (weights_in rows key.measure) x ≤ top
 
--- so does the entry of six numbers that begins at j: of the tasks there, the candidates, the row, the memory and the load left, and the bound
-abbrev pub Entry : Table → List (List ℕ) → List ℕ → ℕ → Type 0
-Entry t rows bounds j = Capped t rows (get_or bounds j 0) (get_or bounds (j + 1) 0) (get_or bounds (j + 2) 0) (get_or bounds (j + 3) 0) (get_or bounds (j + 4) 0) (get_or bounds (j + 5) 0)
+-- an entry of zeros: it has no candidates
+abbrev pub empty : Entry
+empty = record { key = record { on = 0; candidates = 0; measure = Load; space = 0; spare = 0 }; top = 0 }
 
--- 2,048 entries, each of them true; one of zeros has no candidates
-pub record BoundCache (t : Table) (rows : List (List ℕ)) (bounds : List ℕ) : Type 0 where
-  pub long : length bounds ≡ 12288
-  pub entries : (j : ℕ) → j < 2048 → Entry t rows bounds (6 * j)
+-- 2,048 entries, each of them true
+pub record BoundCache (t : Table) (rows : Rows) (bounds : List Entry) : Type 0 where
+  pub long : length bounds ≡ 2048
+  pub entries : (j : ℕ) → j < 2048 → let entry = get_or bounds j empty in Capped t rows entry.key entry.top
 
 -- the two tables that the search fills, as long as no list of conflicts is in hand
-pub record Learnt (t : Table) (rows : List (List ℕ)) (lateness bounds : List ℕ) : Type 0 where
+pub record Learnt (t : Table) (rows : Rows) (lateness : List ℕ) (bounds : List Entry) : Type 0 where
   pub knows : LateCache (tasks_in t) lateness
   pub keeps : BoundCache t rows bounds
 
 -- the same beside a list of conflicts
-pub record LearntOf (t : Table) (list : List ℕ) (count : ℕ) (rows : List (List ℕ)) (lateness bounds : List ℕ) : Type 0 where
+pub record LearntOf (t : Table) (list : List ℕ) (count : ℕ) (rows : Rows) (lateness : List ℕ) (bounds : List Entry) : Type 0 where
   pub knows : KnownSets (tasks_in t) list count lateness
   pub keeps : BoundCache t rows bounds
 
--- the number of the entry for these tasks, candidates, row and memory left: the high bits of a sum of products
-unfoldable pub entry_of : ℕ → ℕ → ℕ → ℕ → ℕ
-entry_of on candidates row space =
-    (on * 2654435761 % 4294967296 + candidates * 2246822519 % 4294967296 + space % 4294967296 * 3266489917 % 4294967296 + row % 4096 * 668265263) % 4294967296 / 2097152
+-- the number of a measure
+abbrev pub number_of : Measure → ℕ
+number_of Load = 0
+number_of Memory = 1
+number_of Both = 2
+number_of Other = 3
 
--- the entry that begins at j is for these tasks, candidates and row, and for so much memory and load left
-unfoldable pub is_for : List ℕ → ℕ → ℕ → ℕ → ℕ → ℕ → ℕ → Bool
-is_for bounds j on candidates row space spare =
-    eqb (get_or bounds j 0) on
-    && (eqb (get_or bounds (j + 1) 0) candidates && (eqb (get_or bounds (j + 2) 0) row && (eqb (get_or bounds (j + 3) 0) space && eqb (get_or bounds (j + 4) 0) spare)))
+-- the number of the entry for these tasks, candidates, weights and memory left: the high bits of a sum of products
+unfoldable pub entry_of : Key → ℕ
+entry_of key =
+    (key.on * 2654435761 % 4294967296 + key.candidates * 2246822519 % 4294967296 + key.space % 4294967296 * 3266489917 % 4294967296 + number_of key.measure * 668265263) % 4294967296 / 2097152
 
--- what is found for them: whether their entry is for them, and its bound
-abbrev pub recall_of : List ℕ → ℕ → ℕ → ℕ → ℕ → ℕ → Recalled
-recall_of bounds on candidates row space spare =
-    let j = 6 * entry_of on candidates row space in
-    record { hit = is_for bounds j on candidates row space spare; top = get_or bounds (j + 5) 0 }
+-- the two are the same
+abbrev pub same_key : Key → Key → Bool
+same_key a b = eqb a.on b.on && (eqb a.candidates b.candidates && (eqb (number_of a.measure) (number_of b.measure) && (eqb a.space b.space && eqb a.spare b.spare)))
 
--- the table with their entry anew
-abbrev pub keep_of : List ℕ → ℕ → ℕ → ℕ → ℕ → ℕ → ℕ → List ℕ
-keep_of bounds on candidates row space spare top =
-    let j = 6 * entry_of on candidates row space in
-    set (set (set (set (set (set bounds j on) (j + 1) candidates) (j + 2) row) (j + 3) space) (j + 4) spare) (j + 5) top
+-- what is found for a key: the bound of its entry, where that is for the key
+abbrev pub recall_of : List Entry → Key → Option ℕ
+recall_of bounds key =
+    let entry = get_or bounds (entry_of key) empty in
+    cond (same_key entry.key key) (Some entry.top) None
+
+-- the table with its entry anew
+abbrev pub keep_of : List Entry → Key → ℕ → List Entry
+keep_of bounds key top = set bounds (entry_of key) (record { key = key; top = top })

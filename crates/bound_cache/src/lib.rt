@@ -1,99 +1,90 @@
 // What is kept of the bounds on what a processor can take, so that they are seldom worked out twice.
 #![tactic(auto)]
 
-ghost use Rattle.std.specs.Prelude.{◌≡◌, ◌≤◌, ◌<◌};
-ghost use Rattle.bound_cache.specs.BoundCache.{entry_of, is_for, recall_of, keep_of};
+ghost use Rattle.std.specs.Prelude.{◌≡◌, ◌<◌};
+ghost use Rattle.bound_cache.specs.BoundCache.{number_of, entry_of, recall_of, keep_of};
 
+use late_cache::LateCache;
 use numbers::wide;
+use rows::Measure;
 
-// 2,048 bounds, each with what it was worked out from.
-pub type BoundCache = [u64; 12288];
+// What a bound was worked out from: the tasks on a processor, the candidates, what the weights are, and the memory (space) and load (spare) left.
+#[derive(Clone, Copy, PartialEq, Eq)]
+pub struct Key {
+    pub on: u32,
+    pub candidates: u32,
+    pub measure: Measure,
+    pub space: u64,
+    pub spare: u64,
+}
 
-// Whether a bound is kept, and which.
+// A bound that is kept.
 #[derive(Clone, Copy)]
-pub struct Recalled {
-    pub hit: bool,
+pub struct Entry {
+    pub key: Key,
     pub top: u64,
 }
 
-// The entry for these tasks, candidates, row and memory left. Any entry would do: no answer rests on it.
-fn entry_of(on: u32, candidates: u32, row: usize, space: u64) -> usize
-    ensures { (result ≡ entry_of on candidates row space) × (result < 2048) }
+// 2,048 bounds.
+pub type BoundCache = [Entry; 2048];
+
+// No bound: there are no candidates.
+pub const EMPTY: Entry = Entry {
+    key: Key {
+        on: 0,
+        candidates: 0,
+        measure: Measure::Load,
+        space: 0,
+        spare: 0,
+    },
+    top: 0,
+};
+
+// All that the search has learnt: which sets are late, and how much processors can take.
+#[derive(Clone, Copy)]
+pub struct Caches {
+    pub lateness: LateCache,
+    pub bounds: BoundCache,
+}
+
+// The number of a measure.
+fn number_of(measure: Measure) -> u64
+    ensures { result ≡ number_of measure }
 {
-    let tasks = wide(on) * 2654435761 % 4294967296;
-    let open = wide(candidates) * 2246822519 % 4294967296;
-    let left = space % 4294967296 * 3266489917 % 4294967296;
-    let kind = (row % 4096) as u64 * 668265263;
+    match measure {
+        Measure::Load => 0,
+        Measure::Memory => 1,
+        Measure::Both => 2,
+        Measure::Other => 3,
+    }
+}
+
+// The entry for these tasks, candidates, weights and memory left. Any entry would do: no answer rests on it.
+fn entry_of(key: Key) -> usize
+    ensures { (result ≡ entry_of key) × (result < 2048) }
+{
+    let tasks = wide(key.on) * 2654435761 % 4294967296;
+    let open = wide(key.candidates) * 2246822519 % 4294967296;
+    let left = key.space % 4294967296 * 3266489917 % 4294967296;
+    let kind = number_of(key.measure) * 668265263;
     let mixed = (tasks + open + left + kind) % 4294967296;
     (mixed / 2097152) as usize
 }
 
-// Whether the entry that begins at j is for these tasks, candidates and row, with that much memory and load left.
-fn is_for(
-    bounds: &BoundCache,
-    j: usize,
-    on: u32,
-    candidates: u32,
-    row: usize,
-    space: u64,
-    spare: u64,
-) -> bool
-    requires { j ≤ 12282 }
-    ensures { result ≡ is_for bounds.now j on candidates row space spare }
+// The bound that is kept for these tasks, candidates and weights, with that much memory and load left.
+pub fn recall(key: Key, bounds: &BoundCache) -> Option<u64>
+    ensures { result ≡ recall_of bounds.now key }
 {
-    if bounds[j] != wide(on) {
-        return false;
+    let entry = bounds[entry_of(key)];
+    if entry.key == key {
+        return Some(entry.top);
     }
-    if bounds[j + 1] != wide(candidates) {
-        return false;
-    }
-    if bounds[j + 2] != row as u64 {
-        return false;
-    }
-    if bounds[j + 3] != space {
-        return false;
-    }
-    if bounds[j + 4] != spare {
-        return false;
-    }
-    true
-}
-
-// The bound that is kept for these tasks, candidates and row, with that much memory (space) and load (spare) left.
-pub fn recall(
-    on: u32,
-    candidates: u32,
-    row: usize,
-    space: u64,
-    spare: u64,
-    bounds: &BoundCache,
-) -> Recalled
-    ensures { result ≡ recall_of bounds.now on candidates row space spare }
-{
-    let j = 6 * entry_of(on, candidates, row, space);
-    Recalled {
-        hit: is_for(bounds, j, on, candidates, row, space, spare),
-        top: bounds[j + 5],
-    }
+    None
 }
 
 // Keeps a bound, in the place of another.
-pub fn keep(
-    on: u32,
-    candidates: u32,
-    row: usize,
-    space: u64,
-    spare: u64,
-    top: u64,
-    bounds: &mut BoundCache,
-)
-    ensures { bounds.new ≡ keep_of bounds.old on candidates row space spare top }
+pub fn keep(key: Key, top: u64, bounds: &mut BoundCache)
+    ensures { bounds.new ≡ keep_of bounds.old key top }
 {
-    let j = 6 * entry_of(on, candidates, row, space);
-    bounds[j] = wide(on);
-    bounds[j + 1] = wide(candidates);
-    bounds[j + 2] = row as u64;
-    bounds[j + 3] = space;
-    bounds[j + 4] = spare;
-    bounds[j + 5] = top;
+    bounds[entry_of(key)] = Entry { key, top };
 }

@@ -1,21 +1,21 @@
 // Which open task the search places next. No answer rests on the choice: it decides only how long the search takes.
 #![tactic(auto)]
 
-ghost use Rattle.std.specs.Prelude.{◌≡◌, ◌<◌, ◌≤◌, T};
+ghost use Rattle.std.specs.Prelude.{◌≡◌, ◌<◌, ◌≤◌, T, get_or};
 ghost use Rattle.mask.specs.Mask.{below};
-ghost use Rattle.heuristics.specs.Heuristics.{failures, at};
-ghost use Rattle.branching.specs.Branching.{choices_of, noise_of, after_noise, score_of, pick_of};
+ghost use Rattle.heuristics.specs.Heuristics.{after_noise};
+ghost use Rattle.branching.specs.Branching.{choices_of, noise_of, score_of, pick_of};
 
-use heuristics::{FAILURES, Heuristics};
+use heuristics::Heuristics;
 use numbers::wide;
 
 // The lower, the sooner task k is placed: few choices, which count squared, and a large weight; and a little noise, so that a restart chooses anew.
 fn score(base: u32, choices: u64, k: usize, heuristics: &mut Heuristics) -> u64
     requires { (choices ≤ 8) × (k < 24) }
-    ensures { (result ≡ score_of base (at heuristics.old failures k) choices (noise_of heuristics.old))
+    ensures { (result ≡ score_of base (get_or heuristics.old.guide.failures k 0) choices (noise_of heuristics.old))
         × (heuristics.new ≡ after_noise heuristics.old) }
 {
-    let weight = wide(base) + wide(heuristics[FAILURES][k]) + 1;
+    let weight = wide(base) + wide(heuristics.guide.failures[k]) + 1;
     let plain = choices * choices * 67108864 / weight;
     plain + plain / 1024 * heuristics::noise(heuristics) / 10
 }
@@ -26,12 +26,10 @@ fn choices(may: &[u32; 8], processors: usize, k: usize) -> u64
     ensures { (result ≡ choices_of may.now processors k) × (result ≤ 8) }
 {
     let mut found: u64 = 0;
-    let mut p: usize = 0;
-    while p < processors {
+    for p in 0..processors {
         if mask::has(may[p], k) {
             found += 1;
         }
-        p += 1;
     }
     found
 }
@@ -50,9 +48,7 @@ pub fn pick<'a>(
 {
     let mut best = mask::lowest(left);
     let mut least: u64 = 18446744073709551615;
-    let mut rest = left;
-    while rest != 0 {
-        let k = mask::lowest(rest);
+    for k in mask::members(left) {
         let found = choices(may, processors, k);
         if found == 0 {
             heuristics::blame(heuristics, k);
@@ -63,7 +59,6 @@ pub fn pick<'a>(
             best = k;
             least = value;
         }
-        rest = mask::remove(rest, k);
     }
     best
 }

@@ -8,16 +8,13 @@ ghost use Rattle.timing.specs.Timing.{tasks_in};
 ghost use Rattle.partial.specs.declared.State.{State};
 ghost use Rattle.partial.specs.Partial.{site_of};
 ghost use Rattle.nogoods.specs.Nogoods.{KnownSets};
-ghost use Rattle.region.specs.Lends.{Lends};
 ghost use Rattle.region.specs.Begins.{Opens};
-ghost use Rattle.region.specs.Given.{Given, Gives};
+ghost use Rattle.region.specs.Given.{InstanceOf, Given, Gives};
 ghost use Rattle.candidates.specs.Candidates.{JoinsAs, ChosenAs, CandidatesAs};
 
 use late_cache::LateCache;
 use nogoods::Mode;
-use partial::{Site, Sizes, State};
-use rows::{Messages, Rows};
-use schedule::Timing;
+use partial::{Instance, Site, State};
 
 // Whether a task may join a processor, and how many conflicts are listed then.
 #[derive(Clone, Copy)]
@@ -41,11 +38,8 @@ pub struct Candidates {
 }
 
 // The open task k on processor p: tested by the rules, then for lateness.
-fn join<'a>(
-    timing: &'a Timing,
-    rows: &'a Rows,
-    messages: &'a Messages,
-    sizes: Sizes,
+fn join(
+    instance: &Instance,
     site: Site,
     k: usize,
     p: usize,
@@ -54,17 +48,25 @@ fn join<'a>(
     count: usize,
     lateness: &mut LateCache,
 ) -> Joining
-    requires { ((t : Table) × (s : State) × Lends t sizes timing.now rows.now messages.now × Opens t s list.old count × (site ≡ site_of s p)
-        × KnownSets (tasks_in t) list.old count lateness.old) × T (has site.left k) × (p < sizes.processors) }
-    ensures { (t : Table) (s : State) → Lends t sizes timing.now rows.now messages.now
+    requires { ((t : Table) × (s : State) × InstanceOf t instance.now × Opens t s list.old count × (site ≡ site_of s p)
+        × KnownSets (tasks_in t) list.old count lateness.old) × T (has site.left k) × (p < instance.now.sizes.processors) }
+    ensures { (t : Table) (s : State) → InstanceOf t instance.now
         → Opens t s list.old count → site ≡ site_of s p → KnownSets (tasks_in t) list.old count lateness.old
         → JoinsAs t mode s k p list.old count list.new result × KnownSets (tasks_in t) list.new result.count lateness.new }
 {
-    if !partial::allows(rows, messages, sizes, site, k, p) {
+    if !partial::allows(instance, site, k, p) {
         return Joining { able: false, count };
     }
     let set = mask::insert(site.on, k);
-    let tested = nogoods::test(timing, sizes.tasks, set, mode, list, count, lateness);
+    let tested = nogoods::test(
+        &instance.timing,
+        instance.sizes.tasks,
+        set,
+        mode,
+        list,
+        count,
+        lateness,
+    );
     Joining {
         able: !tested.bad,
         count: tested.count,
@@ -72,11 +74,8 @@ fn join<'a>(
 }
 
 // The open tasks that may stand on processor p.
-fn candidates_on<'a>(
-    timing: &'a Timing,
-    rows: &'a Rows,
-    messages: &'a Messages,
-    sizes: Sizes,
+fn candidates_on(
+    instance: &Instance,
     s: State,
     p: usize,
     mode: Mode,
@@ -84,63 +83,45 @@ fn candidates_on<'a>(
     count: usize,
     lateness: &mut LateCache,
 ) -> Chosen
-    requires { Given sizes timing.now rows.now messages.now (λ t. Opens t s list.old count) (λ t. KnownSets (tasks_in t) list.old count lateness.old)
-        × (p < sizes.processors) }
-    ensures { Gives sizes timing.now rows.now messages.now
+    requires { Given instance.now (λ t. Opens t s list.old count) (λ t. KnownSets (tasks_in t) list.old count lateness.old)
+        × (p < instance.now.sizes.processors) }
+    ensures { Gives instance.now
         (λ t. Opens t s list.old count) (λ t. KnownSets (tasks_in t) list.old count lateness.old)
         (λ t. ChosenAs t mode s p list.old count list.new result × KnownSets (tasks_in t) list.new result.count lateness.new) }
 {
-    let site = Site {
-        on: s.on[p],
-        left: s.left,
-        memory: s.memory[p],
-        load: s.load[p],
-        traffic: s.traffic,
-    };
+    let site = s.site(p);
     let mut set: u32 = 0;
     let mut listed = count;
-    let mut rest = s.left;
-    while rest != 0 {
-        let k = mask::lowest(rest);
-        let joining = join(
-            timing, rows, messages, sizes, site, k, p, mode, list, listed, lateness,
-        );
+    for k in mask::members(s.left) {
+        let joining = join(instance, site, k, p, mode, list, listed, lateness);
         listed = joining.count;
         if joining.able {
             set = mask::insert(set, k);
         }
-        rest = mask::remove(rest, k);
     }
     Chosen { set, count: listed }
 }
 
 // The candidates for each processor.
-pub fn candidates_of<'a>(
-    timing: &'a Timing,
-    rows: &'a Rows,
-    messages: &'a Messages,
-    sizes: Sizes,
+pub fn candidates_of(
+    instance: &Instance,
     s: State,
     mode: Mode,
     list: &mut [u8],
     count: usize,
     lateness: &mut LateCache,
 ) -> Candidates
-    requires { Given sizes timing.now rows.now messages.now (λ t. Opens t s list.old count) (λ t. KnownSets (tasks_in t) list.old count lateness.old) }
-    ensures { Gives sizes timing.now rows.now messages.now
+    requires { Given instance.now (λ t. Opens t s list.old count) (λ t. KnownSets (tasks_in t) list.old count lateness.old) }
+    ensures { Gives instance.now
         (λ t. Opens t s list.old count) (λ t. KnownSets (tasks_in t) list.old count lateness.old)
         (λ t. CandidatesAs t mode s list.old count list.new result × KnownSets (tasks_in t) list.new result.count lateness.new) }
 {
     let mut sets = [0u32; 8];
     let mut listed = count;
-    let mut p: usize = 0;
-    while p < sizes.processors {
-        let chosen = candidates_on(
-            timing, rows, messages, sizes, s, p, mode, list, listed, lateness,
-        );
+    for p in 0..instance.sizes.processors {
+        let chosen = candidates_on(instance, s, p, mode, list, listed, lateness);
         sets[p] = chosen.set;
         listed = chosen.count;
-        p += 1;
     }
     Candidates {
         sets,

@@ -1,5 +1,5 @@
 -- Bounds on what each processor can take, made tighter one after the other, and what their sum says. Assumes nothing.
-use mathlib.Core.Path.{◌≡◌, sym, subst}
+use mathlib.Core.Path.{◌≡◌, sym, ap, subst}
 use mathlib.Core.Logic.{◌⊎◌, ⊎_elim}
 use mathlib.Core.Bool.{Bool, true, false}
 use mathlib.Core.List.{List}
@@ -19,7 +19,7 @@ use Rattle.table.specs.Sound.{Sound}
 use Rattle.schedule.specs.Arrays.{tasks_of}
 use Rattle.rules.specs.Sets.{standing}
 use Rattle.timing.specs.Timing.{tasks_in}
-use Rattle.rows.specs.Rows.{loads_of, exclusions_of, memory_row, load_row, exclusion_row, weights_in}
+use Rattle.rows.specs.Rows.{loads_of, exclusions_of, weights_in}
 use Rattle.nogoods.specs.declared.Mode.{Mode}
 use Rattle.nogoods.specs.Nogoods.{Nogoods, Extended, Bad}
 use Rattle.nogoods.proofs.Growth.{extended_refl, extended_trans, extended_map}
@@ -39,12 +39,18 @@ use Rattle.knapsack.specs.declared.Pack.{Pack}
 use Rattle.knapsack.specs.declared.Packed.{Packed}
 use Rattle.knapsack.specs.Knapsack.{weight_of, Takes, PackedAs}
 use Rattle.knapsack.proofs.Taking.{takes_map}
-use Rattle.bound_cache.specs.BoundCache.{Capped}
+use Rattle.knapsack.specs.declared.Weighting.{Weighting}
+use Rattle.bound_cache.specs.declared.Key.{Key}
+use Rattle.bound_cache.specs.BoundCache.{Capped, number_of}
 use Rattle.capacity_bound.specs.declared.Tightened.{Tightened}
 use Rattle.capacity_bound.specs.Bound.{BoundedAs}
 use Rattle.subgradient.specs.Subgradient.{heaviest}
 use Rattle.capacity_bound.specs.CapacityBound.{packing_fuel, Weights, TopAs, Covers, Joins, Bounds, Tops, Weighable, Topped, TightAs}
 use Rattle.capacity_bound.proofs.OpenTasks.{open_on, fair_joins, open_sum_lem}
+use Rattle.schedule.specs.declared.Timing.{Timing}
+use Rattle.rows.specs.declared.Rows.{Rows}
+use Rattle.rows.specs.declared.Measure.{Measure}
+use Rattle.rows.specs.declared.Messages.{Messages}
 
 -- fewer kinds of sets
 joins_map : {t : Table} {s : State} {B C : (ℕ → Bool) → Type 0} {sets : List ℕ} {p x : ℕ} → ((y : ℕ → Bool) → B y → C y) → Joins t s C sets p x → Joins t s B sets p x
@@ -63,14 +69,19 @@ joins_cover : {t : Table} {s : State} {B : (ℕ → Bool) → Type 0} {sets : Li
 joins_cover c j = record { inside = λ k u. rw (← c.same_set) (j.inside k u); takes = takes_more c.same_on c.memory c.load j.takes }
 
 -- the first bounds
-pub tops_start : {t : Table} {s : State} {B : (ℕ → Bool) → Type 0} {sizes : Sizes} {rows links : List (List ℕ)} {weights sets tops : List ℕ} {row : ℕ} → Lent t sizes rows links → Weights rows row weights → Fits t s
+pub tops_start : {t : Table} {s : State} {B : (ℕ → Bool) → Type 0} {sizes : Sizes} {rows : Rows} {links : Messages} {weighting : Weighting} {sets tops : List ℕ} → Lent t sizes rows links → Weights rows weighting → Fits t s
     → ((p : ℕ) → p < t.processors.count → Eligible t s p (get_or sets p 0)) → ((p : ℕ) → get_or tops p 0 ≤ heaviest)
-    → ((p : ℕ) → p < sizes.processors → TopAs weights (get_or sets p 0) row (get_or s.memory p 0) (get_or s.load p 0) (get_or tops p 0)) → Tops t s B weights sets tops
+    → ((p : ℕ) → p < sizes.processors → TopAs weighting (get_or sets p 0) (get_or s.memory p 0) (get_or s.load p 0) (get_or tops p 0)) → Tops t s B weighting.weights sets tops
 tops_start {t} l v f el small tops = record {
   small = small;
   bounds = λ p low x j. (tops p (omega (arith, l.processors))).bounds t.tasks.count (eligible_below f (el p low)) x j.inside
-      (λ e. rw (v (omega arith), e, l.same_loads) j.takes.enough_load) (λ e. rw (v (omega arith), e, l.same_memory) j.takes.enough_memory);
+      (λ e. rw (v (λ o. absurd (omega (arith, ap number_of e, ap number_of o))), e, l.same_loads) j.takes.enough_load)
+      (λ e. rw (v (λ o. absurd (omega (arith, ap number_of e, ap number_of o))), e, l.same_memory) j.takes.enough_memory);
 }
+
+-- what a bound for p is worked out from
+abbrev key_of : State → List ℕ → ℕ → Measure → Key
+key_of s sets p measure = record { on = get_or s.on p 0; candidates = get_or sets p 0; measure = measure; space = get_or s.memory p 0; spare = get_or s.load p 0 }
 
 -- what the packing begins with for p
 abbrev pack_of : State → List ℕ → List ℕ → ℕ → ℕ → Pack
@@ -99,8 +110,8 @@ module _ {t : Table} {s : State} {mode : Mode} {weights sets tops list : List �
   }
 
   -- or one that is kept, of late sets
-  pub tight_recalled : {rows : List (List ℕ)} {row top most set calls : ℕ} → mode.listing ≡ false → weights ≡ weights_in rows row → Nogoods (tasks_in t) list count
-      → Capped t rows (get_or s.on p 0) (get_or sets p 0) row (get_or s.memory p 0) (get_or s.load p 0) top
+  pub tight_recalled : {rows : Rows} {measure : Measure} {top most set calls : ℕ} → mode.listing ≡ false → weights ≡ weights_in rows measure → Nogoods (tasks_in t) list count
+      → Capped t rows (key_of s sets p measure) top
       → (most ≤ get_or tops p 0) × (most ≤ top) × ((most ≡ get_or tops p 0) ⊎ (most ≡ top)) → TightAs t mode s weights sets tops p list count list (record { most = most; set = set; count = count; calls = calls })
   tight_recalled {top = top} e v w c m = record {
     list = extended_refl w;
@@ -123,17 +134,17 @@ module _ {t : Table} {s : State} {mode : Mode} {weights sets tops list : List �
   }
 
 -- a bound that can be kept
-pub tight_capped : {t : Table} {mode : Mode} {s : State} {weights sets tops old new : List ℕ} {rows : List (List ℕ)} {p before row : ℕ} (r : Tightened) → mode.listing ≡ false
-    → weights ≡ weights_in rows row → TightAs t mode s weights sets tops p old before new r
-    → Capped t rows (get_or s.on p 0) (get_or sets p 0) row (get_or s.memory p 0) (get_or s.load p 0) r.most
+pub tight_capped : {t : Table} {mode : Mode} {s : State} {weights sets tops old new : List ℕ} {rows : Rows} {measure : Measure} {p before : ℕ} (r : Tightened) → mode.listing ≡ false
+    → weights ≡ weights_in rows measure → TightAs t mode s weights sets tops p old before new r
+    → Capped t rows (key_of s sets p measure) r.most
 tight_capped {t} {new = new} r e v a = record {
   bounds = λ x w f. rw (← v) (a.bounds x (record { inside = f; takes = takes_map (λ y bad. subst (λ (b : Bool). Bad (tasks_in t) b new r.count y) e bad) w }));
 }
 
 -- what the packing leaves, by the table's rows
-pub packed_as : {t : Table} {sizes : Sizes} {timing rows links : List (List ℕ)} → Lends t sizes timing rows links
+pub packed_as : {t : Table} {sizes : Sizes} {timing : Timing} {rows : Rows} {links : Messages} → Lends t sizes timing rows links
     → {mode : Mode} {weights : List ℕ} {pack : Pack} {old new : List ℕ} {before : ℕ} {r : Packed}
-    → PackedAs sizes.tasks (tasks_of sizes.tasks timing) mode (memory_row rows) (exclusion_row rows) (load_row rows) weights pack old before new r
+    → PackedAs sizes.tasks (tasks_of sizes.tasks timing) mode rows.memory rows.exclusions rows.load weights pack old before new r
     → PackedAs t.tasks.count (tasks_in t) mode t.tasks.memory (exclusions_of t) (loads_of t) weights pack old before new r
 packed_as l a = rw (lent_tasks l, l.rules.tasks, l.rules.same_memory, l.rules.same_exclusions, l.rules.same_loads) at a
 

@@ -1,5 +1,5 @@
 -- The capacity bound: how much of the open tasks' weight each processor can take at most.
-use Rattle.std.specs.Prelude.{◌≡◌, Bool, List, ℕ, ◌-◌, ◌*◌, ◌≤◌, ◌<◌, T, get_or}
+use Rattle.std.specs.Prelude.{◌≡◌, Bool, List, ℕ, ◌-◌, ◌≤◌, ◌<◌, T, get_or}
 use Rattle.mask.specs.Mask.{below, Subset}
 use Rattle.table.specs.declared.Table.{Table}
 use Rattle.rules.specs.Sets.{standing}
@@ -15,10 +15,13 @@ use Rattle.candidates.specs.Candidates.{Choices}
 use Rattle.knapsack.specs.Knapsack.{weight_of, Takes}
 use Rattle.subgradient.specs.Subgradient.{heaviest}
 use Rattle.capacity_bound.specs.declared.Tightened.{Tightened}
+use Rattle.rows.specs.declared.Rows.{Rows}
+use Rattle.rows.specs.declared.Measure.TheVariants.{Load, Memory, Other}
+use Rattle.knapsack.specs.declared.Weighting.{Weighting}
 
--- for a row below 3 the weights are those of the row; from 3 on they may be any
-abbrev pub Weights : List (List ℕ) → ℕ → List ℕ → Type 0
-Weights rows row weights = row < 3 → weights ≡ weights_in rows row
+-- the weights are those of the rows by their measure; others may be any
+abbrev pub Weights : Rows → Weighting → Type 0
+Weights rows weighting = (weighting.measure ≡ Other → ⊥) → weighting.weights ≡ weights_in rows weighting.measure
 
 -- how many calls each packing may use
 abbrev pub packing_fuel : ℕ
@@ -28,10 +31,11 @@ packing_fuel = 20000
 abbrev pub calls_of : ℕ → ℕ
 calls_of left = packing_fuel - left
 
--- r bounds the weight of the sets x of candidates that weigh no more than what is left of the load, where row 0 weighs them, or of the memory, where row 1 does
-pub record TopAs (weights : List ℕ) (set row space spare r : ℕ) : Type 0 where
+-- r bounds the weight of the sets x of candidates that weigh no more than what is left of the load, where that is weighed, or of the memory, where that is
+pub record TopAs (weighting : Weighting) (set space spare r : ℕ) : Type 0 where
   pub small : r ≤ heaviest
-  pub bounds : (n : ℕ) → T (below n set) → (x : ℕ) → Subset x set → (row ≡ 0 → weight_of n weights x ≤ spare) → (row ≡ 1 → weight_of n weights x ≤ space) → weight_of n weights x ≤ r
+  pub bounds : (n : ℕ) → T (below n set) → (x : ℕ) → Subset x set → (weighting.measure ≡ Load → weight_of n weighting.weights x ≤ spare) → (weighting.measure ≡ Memory → weight_of n weighting.weights x ≤ space)
+      → weight_of n weighting.weights x ≤ r
 
 -- processor r can take whatever p can
 pub record Covers (s : State) (sets : List ℕ) (r p : ℕ) : Type 0 where

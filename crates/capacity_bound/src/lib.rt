@@ -11,15 +11,15 @@ ghost use Rattle.capacity_bound.specs.Bound.{BoundedAs};
 ghost use Rattle.subgradient.specs.Subgradient.{heaviest};
 ghost use Rattle.capacity_bound.specs.CapacityBound.{packing_fuel, calls_of, Weights, TopAs, Covers, Weighable, Topped, TightAs};
 ghost use Rattle.nogoods.specs.Nogoods.{KnownSets};
+ghost use Rattle.rows.specs.declared.Measure.TheVariants.{Other};
 
-use bound_cache::BoundCache;
-use knapsack::Pack;
+use bound_cache::{Caches, Key};
+use knapsack::{Pack, Weighting};
 use late_cache::LateCache;
 use nogoods::Mode;
 use numbers::{lower, wide};
-use partial::{Sizes, State};
-use rows::{Messages, Rows};
-use schedule::Timing;
+use partial::{Instance, State};
+use rows::Measure;
 
 // Whether a region is given up at once, and how many conflicts are listed then.
 #[derive(Clone, Copy)]
@@ -51,32 +51,28 @@ pub struct Tightened {
 // How many calls of `knapsack::most` each packing may use.
 const FUEL: u32 = 20000;
 
-// A bound on the weight that a processor can take of the candidates: all of them, or by what is left of its load (row 0) or memory (row 1).
-fn top(weights: &[u32; 24], set: u32, row: usize, space: u64, spare: u64) -> u64
+// A bound on the weight that a processor can take of the candidates: all of them, or by what is left of its load or memory, where these are weighed.
+fn top(weighting: &Weighting, set: u32, space: u64, spare: u64) -> u64
     requires { T (below 24 set) }
-    ensures { TopAs weights.now set row space spare result }
+    ensures { TopAs weighting.now set space spare result }
 {
-    let all = subgradient::total(weights, set);
-    if row == 0 {
-        return lower(all, spare);
+    let all = subgradient::total(&weighting.weights, set);
+    match weighting.measure {
+        Measure::Load => lower(all, spare),
+        Measure::Memory => lower(all, space),
+        _ => all,
     }
-    if row == 1 {
-        return lower(all, space);
-    }
-    all
 }
 
 // Such a bound for each of the m processors.
-fn tops_of(weights: &[u32; 24], sets: [u32; 8], row: usize, s: State, m: usize) -> [u64; 8]
+fn tops_of(weighting: &Weighting, sets: [u32; 8], s: State, m: usize) -> [u64; 8]
     requires { (m ≤ 8) × ((p : ℕ) → p < m → T (below 24 (get_or sets p 0))) }
     ensures { (length result ≡ 8) × ((p : ℕ) → get_or result p 0 ≤ heaviest)
-        × ((p : ℕ) → p < m → TopAs weights.now (get_or sets p 0) row (get_or s.memory p 0) (get_or s.load p 0) (get_or result p 0)) }
+        × ((p : ℕ) → p < m → TopAs weighting.now (get_or sets p 0) (get_or s.memory p 0) (get_or s.load p 0) (get_or result p 0)) }
 {
     let mut tops = [0u64; 8];
-    let mut p: usize = 0;
-    while p < m {
-        tops[p] = top(weights, sets[p], row, s.memory[p], s.load[p]);
-        p += 1;
+    for p in 0..m {
+        tops[p] = top(weighting, sets[p], s.memory[p], s.load[p]);
     }
     tops
 }
@@ -87,10 +83,8 @@ fn sum_of(tops: [u64; 8], m: usize) -> u64
     ensures { result ≡ sum_to m (λ p. get_or tops p 0) }
 {
     let mut sum: u64 = 0;
-    let mut p: usize = 0;
-    while p < m {
+    for p in 0..m {
         sum += tops[p];
-        p += 1;
     }
     sum
 }
@@ -140,24 +134,18 @@ fn like(s: State, sets: [u32; 8], p: usize) -> usize
     requires { p < 8 }
     ensures { (result ≤ p) × (result < p → Covers s sets result p) }
 {
-    let mut r: usize = 0;
-    while r < p {
+    for r in 0..p {
         if covers(s, sets, r, p) {
             return r;
         }
-        r += 1;
     }
     p
 }
 
 // A tighter bound for processor p, by packing.
-fn pack<'a>(
-    timing: &'a Timing,
-    rows: &'a Rows,
-    messages: &'a Messages,
-    weights: &'a [u32; 24],
-    order: &'a [u32; 24],
-    sizes: Sizes,
+fn pack(
+    instance: &Instance,
+    weighting: &Weighting,
     s: State,
     sets: [u32; 8],
     tops: [u64; 8],
@@ -167,17 +155,17 @@ fn pack<'a>(
     count: usize,
     lateness: &mut LateCache,
 ) -> Tightened
-    requires { Given sizes timing.now rows.now messages.now
-        (λ t. Topped t mode s weights.now sets tops list.old count) (λ t. KnownSets (tasks_in t) list.old count lateness.old)
-        × (p < sizes.processors) }
-    ensures { Gives sizes timing.now rows.now messages.now
-        (λ t. Topped t mode s weights.now sets tops list.old count) (λ t. KnownSets (tasks_in t) list.old count lateness.old)
-        (λ t. TightAs t mode s weights.now sets tops p list.old count list.new result × KnownSets (tasks_in t) list.new result.count lateness.new)
+    requires { Given instance.now
+        (λ t. Topped t mode s weighting.now.weights sets tops list.old count) (λ t. KnownSets (tasks_in t) list.old count lateness.old)
+        × (p < instance.now.sizes.processors) }
+    ensures { Gives instance.now
+        (λ t. Topped t mode s weighting.now.weights sets tops list.old count) (λ t. KnownSets (tasks_in t) list.old count lateness.old)
+        (λ t. TightAs t mode s weighting.now.weights sets tops p list.old count list.new result × KnownSets (tasks_in t) list.new result.count lateness.new)
         × (result.calls ≤ packing_fuel) }
 {
     let most = tops[p];
     let set = sets[p];
-    let reach = subgradient::total(weights, set);
+    let reach = subgradient::total(&weighting.weights, set);
     let on = s.on[p];
     let space = s.memory[p];
     let spare = s.load[p];
@@ -195,11 +183,10 @@ fn pack<'a>(
         fuel: FUEL,
     };
     let packed = knapsack::most(
-        timing,
-        rows,
-        weights,
-        order,
-        sizes.tasks,
+        &instance.timing,
+        &instance.rows,
+        weighting,
+        instance.sizes.tasks,
         pack,
         mode,
         list,
@@ -215,14 +202,9 @@ fn pack<'a>(
 }
 
 // The same where no conflicts are listed: what is kept of it, or by packing, and that is kept then.
-fn pack_once<'a>(
-    timing: &'a Timing,
-    rows: &'a Rows,
-    messages: &'a Messages,
-    weights: &'a [u32; 24],
-    order: &'a [u32; 24],
-    row: usize,
-    sizes: Sizes,
+fn pack_once(
+    instance: &Instance,
+    weighting: &Weighting,
     s: State,
     sets: [u32; 8],
     tops: [u64; 8],
@@ -230,48 +212,53 @@ fn pack_once<'a>(
     mode: Mode,
     list: &mut [u8],
     count: usize,
-    lateness: &mut LateCache,
-    bounds: &mut BoundCache,
+    caches: &mut Caches,
 ) -> Tightened
-    requires { Given sizes timing.now rows.now messages.now
-        (λ t. Topped t mode s weights.now sets tops list.old count) (λ t. LearntOf t list.old count rows.now lateness.old bounds.old)
-        × Weights rows.now row weights.now × (p < sizes.processors) × (mode.listing ≡ false) × (row < 3) }
-    ensures { Gives sizes timing.now rows.now messages.now
-        (λ t. Topped t mode s weights.now sets tops list.old count) (λ t. LearntOf t list.old count rows.now lateness.old bounds.old)
-        (λ t. TightAs t mode s weights.now sets tops p list.old count list.new result × LearntOf t list.new result.count rows.now lateness.new bounds.new)
+    requires { Given instance.now
+        (λ t. Topped t mode s weighting.now.weights sets tops list.old count) (λ t. LearntOf t list.old count instance.now.rows caches.old.lateness caches.old.bounds)
+        × Weights instance.now.rows weighting.now × (p < instance.now.sizes.processors) × (mode.listing ≡ false) × (weighting.now.measure ≡ Other → ⊥) }
+    ensures { Gives instance.now
+        (λ t. Topped t mode s weighting.now.weights sets tops list.old count) (λ t. LearntOf t list.old count instance.now.rows caches.old.lateness caches.old.bounds)
+        (λ t. TightAs t mode s weighting.now.weights sets tops p list.old count list.new result × LearntOf t list.new result.count instance.now.rows caches.new.lateness caches.new.bounds)
         × (result.calls ≤ packing_fuel) }
 {
     let on = s.on[p];
-    let set = sets[p];
-    let space = s.memory[p];
-    let spare = s.load[p];
-    let kept = bound_cache::recall(on, set, row, space, spare, bounds);
-    if kept.hit {
+    let key = Key {
+        on,
+        candidates: sets[p],
+        measure: weighting.measure,
+        space: s.memory[p],
+        spare: s.load[p],
+    };
+    if let Some(kept) = bound_cache::recall(key, &caches.bounds) {
         return Tightened {
-            most: lower(tops[p], kept.top),
+            most: lower(tops[p], kept),
             set: on,
             count,
             calls: 0,
         };
     }
     let packed = pack(
-        timing, rows, messages, weights, order, sizes, s, sets, tops, p, mode, list, count,
-        lateness,
+        instance,
+        weighting,
+        s,
+        sets,
+        tops,
+        p,
+        mode,
+        list,
+        count,
+        &mut caches.lateness,
     );
-    bound_cache::keep(on, set, row, space, spare, packed.most, bounds);
+    bound_cache::keep(key, packed.most, &mut caches.bounds);
     packed
 }
 
 // A tighter bound for processor p: that of an earlier one which can take just what p can (and what was found for it), or by packing. Bounds are kept
-// only for the weights of a row.
-fn tighten<'a>(
-    timing: &'a Timing,
-    rows: &'a Rows,
-    messages: &'a Messages,
-    weights: &'a [u32; 24],
-    order: &'a [u32; 24],
-    row: usize,
-    sizes: Sizes,
+// only for the weights of the rows.
+fn tighten(
+    instance: &Instance,
+    weighting: &Weighting,
     s: State,
     sets: [u32; 8],
     tops: [u64; 8],
@@ -280,15 +267,14 @@ fn tighten<'a>(
     mode: Mode,
     list: &mut [u8],
     count: usize,
-    lateness: &mut LateCache,
-    bounds: &mut BoundCache,
+    caches: &mut Caches,
 ) -> Tightened
-    requires { Given sizes timing.now rows.now messages.now
-        (λ t. Topped t mode s weights.now sets tops list.old count) (λ t. LearntOf t list.old count rows.now lateness.old bounds.old)
-        × Weights rows.now row weights.now × (p < sizes.processors) }
-    ensures { Gives sizes timing.now rows.now messages.now
-        (λ t. Topped t mode s weights.now sets tops list.old count) (λ t. LearntOf t list.old count rows.now lateness.old bounds.old)
-        (λ t. TightAs t mode s weights.now sets tops p list.old count list.new result × LearntOf t list.new result.count rows.now lateness.new bounds.new)
+    requires { Given instance.now
+        (λ t. Topped t mode s weighting.now.weights sets tops list.old count) (λ t. LearntOf t list.old count instance.now.rows caches.old.lateness caches.old.bounds)
+        × Weights instance.now.rows weighting.now × (p < instance.now.sizes.processors) }
+    ensures { Gives instance.now
+        (λ t. Topped t mode s weighting.now.weights sets tops list.old count) (λ t. LearntOf t list.old count instance.now.rows caches.old.lateness caches.old.bounds)
+        (λ t. TightAs t mode s weighting.now.weights sets tops p list.old count list.new result × LearntOf t list.new result.count instance.now.rows caches.new.lateness caches.new.bounds)
         × (result.calls ≤ packing_fuel) }
 {
     let r = like(s, sets, p);
@@ -301,47 +287,48 @@ fn tighten<'a>(
             calls: 0,
         };
     }
-    if mode.listing || 2 < row {
+    if mode.listing || weighting.measure == Measure::Other {
         return pack(
-            timing, rows, messages, weights, order, sizes, s, sets, tops, p, mode, list, count,
-            lateness,
+            instance,
+            weighting,
+            s,
+            sets,
+            tops,
+            p,
+            mode,
+            list,
+            count,
+            &mut caches.lateness,
         );
     }
     pack_once(
-        timing, rows, messages, weights, order, row, sizes, s, sets, tops, p, mode, list, count,
-        lateness, bounds,
+        instance, weighting, s, sets, tops, p, mode, list, count, caches,
     )
 }
 
-// The bound by weights, those of a row or, where `row` is 3, any others: the processors are tightened one after the other, until their sum is below
+// The bound by weights, those of the rows or any others: the processors are tightened one after the other, until their sum is below
 // what the open tasks weigh.
-pub fn weigh<'a>(
-    timing: &'a Timing,
-    rows: &'a Rows,
-    messages: &'a Messages,
-    weights: &'a [u32; 24],
-    order: &'a [u32; 24],
-    row: usize,
-    sizes: Sizes,
+pub fn weigh(
+    instance: &Instance,
+    weighting: &Weighting,
     s: State,
     sets: [u32; 8],
     mode: Mode,
     list: &mut [u8],
     count: usize,
-    lateness: &mut LateCache,
-    bounds: &mut BoundCache,
+    caches: &mut Caches,
 ) -> Weighed
-    requires { Given sizes timing.now rows.now messages.now
-        (λ t. Weighable t mode s sets list.old count) (λ t. LearntOf t list.old count rows.now lateness.old bounds.old)
-        × Weights rows.now row weights.now }
-    ensures { Gives sizes timing.now rows.now messages.now
-        (λ t. Weighable t mode s sets list.old count) (λ t. LearntOf t list.old count rows.now lateness.old bounds.old)
-        (λ t. BoundedAs t mode s list.old count list.new result.bounded × LearntOf t list.new result.bounded.count rows.now lateness.new bounds.new)
+    requires { Given instance.now
+        (λ t. Weighable t mode s sets list.old count) (λ t. LearntOf t list.old count instance.now.rows caches.old.lateness caches.old.bounds)
+        × Weights instance.now.rows weighting.now }
+    ensures { Gives instance.now
+        (λ t. Weighable t mode s sets list.old count) (λ t. LearntOf t list.old count instance.now.rows caches.old.lateness caches.old.bounds)
+        (λ t. BoundedAs t mode s list.old count list.new result.bounded × LearntOf t list.new result.bounded.count instance.now.rows caches.new.lateness caches.new.bounds)
         × (result.gap ≤ 8 * heaviest) × (result.calls ≤ 8 * packing_fuel) }
 {
-    let m = sizes.processors;
-    let need = subgradient::total(weights, s.left);
-    let mut tops = tops_of(weights, sets, row, s, m);
+    let m = instance.sizes.processors;
+    let need = subgradient::total(&weighting.weights, s.left);
+    let mut tops = tops_of(weighting, sets, s, m);
     let mut found = [0u32; 8];
     let mut sum = sum_of(tops, m);
     let mut listed = count;
@@ -349,8 +336,7 @@ pub fn weigh<'a>(
     let mut p: usize = 0;
     while p < m && need <= sum {
         let tight = tighten(
-            timing, rows, messages, weights, order, row, sizes, s, sets, tops, found, p, mode,
-            list, listed, lateness, bounds,
+            instance, weighting, s, sets, tops, found, p, mode, list, listed, caches,
         );
         tops[p] = tight.most;
         found[p] = tight.set;

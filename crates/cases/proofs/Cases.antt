@@ -4,6 +4,8 @@ use mathlib.Core.List.{List, [], ◌∷◌}
 use Prim.Native.Nat.{ℕ}
 use native.Mathlib.Omega.{arith}
 use lib.Dec.{T}
+use Rattle.std.specs.Prelude.{Ok}
+use Rattle.std.specs.Result.{result_unwrap_or}
 use Rattle.finite.specs.Finite.{some_below, sum_to, first_from, first_below, tabulate}
 use Rattle.mask.specs.Mask.{has, below}
 use Rattle.lcm.specs.Lcm.{lcm, lcm_to}
@@ -11,9 +13,8 @@ use Rattle.wire.specs.Wire.{little, number, bytes, mark_at, pieces}
 use Rattle.layout.specs.Format.{kind_at, bytes_of, place_in}
 use Rattle.verdict.specs.Faults.{verdict, record_verdict, content_verdict, hyperperiod_too_large, message_repeated, periods_differ, priority_used, not_in_file, bad_pair, bad_group, bad_residence, out_of_range, too_many, out_of_order, record_cut, mark_cut}
 use Rattle.table.specs.declared.Table.{Table}
-use Rattle.table.specs.declared.Outcome.TheVariants.{Readable}
 use Rattle.table.specs.Scan.{scan_of, scan_from, at_end, missing}
-use Rattle.table.specs.Table.{column, read_of, table_of, empty_table}
+use Rattle.table.specs.Table.{column, read_of, table_of}
 use Rattle.table.specs.Encode.{encode, encode_record, field_bytes}
 use Rattle.table.specs.Sound.{Sound}
 use Rattle.table.proofs.Sound.{read_sound}
@@ -46,9 +47,13 @@ abbrev EachComputed : List ℕ → Table → List ℕ → List Claim → Type 0
 EachComputed file t q [] = Unit {0}
 EachComputed file t q (x ∷ xs) = Computed file t q x × EachComputed file t q xs
 
+-- the table that is read from a row's file
+abbrev table_read : Case → Table
+table_read c = result_unwrap_or (read_of (file_of c)) (table_for c)
+
 abbrev AllComputed : List Case → Type 0
 AllComputed [] = Unit {0}
-AllComputed (c ∷ cs) = (((read_of (file_of c)).outcome ≡ Readable) × EachComputed (file_of c) (read_of (file_of c)).table c.placement c.claims) × AllComputed cs
+AllComputed (c ∷ cs) = ((read_of (file_of c) ≡ Ok (table_read c)) × EachComputed (file_of c) (table_read c) c.placement c.claims) × AllComputed cs
 
 module _ (file : List ℕ) {t : Table} (s : Sound t) (q : List ℕ) where
   claimed : (x : Claim) → Computed file t q x → Claimed file t q x
@@ -65,7 +70,9 @@ module _ (file : List ℕ) {t : Table} (s : Sound t) (q : List ℕ) where
 
 all_hold : (cs : List Case) → AllComputed cs → AllHold cs
 all_hold [] e = tt
-all_hold (c ∷ cs) e = (each (file_of c) (read_sound (file_of c) (encode_bytes (table_for c)) e.0.0) c.placement c.claims e.0.1, all_hold cs e.1)
+all_hold (c ∷ cs) e =
+    let s = read_sound (file_of c) (encode_bytes (table_for c)) e.0.0 in
+    ((table_read c, e.0.0, each (file_of c) s c.placement c.claims e.0.1), all_hold cs e.1)
 
 -- what is computed for a row, in front of that for the others
 row : {A B : Type 0} → A → B → A × B
@@ -73,7 +80,7 @@ row a b = (a, b)
 
 computed : AllComputed cases
 unfolding judge_of judged_on first_unknown responses_of margins_of first_broken check_rule first_below some_below sum_to first_from tabulate elsewhere apart together some_pair residence_broken co_residence_broken exclusion_broken
-    memory_broken memory_on utilisation_broken load_on network_broken traffic service scheduled pending unfinished response worst_response least_solution demand ceil read_of table_of empty_table column scan_of scan_from at_end
+    memory_broken memory_on utilisation_broken load_on network_broken traffic service scheduled pending unfinished response worst_response least_solution demand ceil read_of table_of column scan_of scan_from at_end
     missing encode pieces encode_record field_bytes verdict record_verdict content_verdict hyperperiod_too_large message_repeated periods_differ priority_used not_in_file bad_pair bad_group bad_residence out_of_range
     too_many out_of_order kind_at bytes_of place_in record_cut mark_cut little number bytes mark_at lcm lcm_to nearest digits
 computed =

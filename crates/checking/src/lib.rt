@@ -10,7 +10,7 @@ ghost use Rattle.rules.specs.Sets.{standing, meets, two_of, outside_of, memory_o
 
 use load::Load;
 use numbers::wide;
-use rules::{Check, Rule};
+use rules::{Broken, Rule};
 use table::{Table, Tasks};
 
 // Whether a task of the group stands on a processor other than p.
@@ -18,14 +18,10 @@ fn stands_elsewhere(sets: [u32; 8], m: usize, p: usize, group: u32) -> bool
     requires { m ≤ 8 }
     ensures { result ≡ elsewhere m p (λ q. meets (get_or sets q 0) group) }
 {
-    let mut q: usize = 0;
-    while q < m {
-        if q != p {
-            if sets[q] & group != 0 {
-                return true;
-            }
+    for q in 0..m {
+        if q != p && sets[q] & group != 0 {
+            return true;
         }
-        q += 1;
     }
     false
 }
@@ -35,14 +31,10 @@ fn stand_apart(sets: [u32; 8], m: usize, one: u32, other: u32) -> bool
     requires { m ≤ 8 }
     ensures { result ≡ apart m (λ p. meets (get_or sets p 0) one) (λ p. meets (get_or sets p 0) other) }
 {
-    let mut p: usize = 0;
-    while p < m {
-        if sets[p] & one != 0 {
-            if stands_elsewhere(sets, m, p, other) {
-                return true;
-            }
+    for p in 0..m {
+        if sets[p] & one != 0 && stands_elsewhere(sets, m, p, other) {
+            return true;
         }
-        p += 1;
     }
     false
 }
@@ -52,12 +44,10 @@ fn stand_together(sets: [u32; 8], m: usize, group: u32) -> bool
     requires { m ≤ 8 }
     ensures { result ≡ some_below m (λ p. two_of group (get_or sets p 0)) }
 {
-    let mut p: usize = 0;
-    while p < m {
+    for p in 0..m {
         if mask::at_least_two(sets[p] & group) {
             return true;
         }
-        p += 1;
     }
     false
 }
@@ -67,14 +57,10 @@ fn stands_outside(sets: [u32; 8], m: usize, k: usize, residence: u32) -> bool
     requires { (m ≤ 8) × (k < 32) }
     ensures { result ≡ outside_of sets m k residence }
 {
-    let mut p: usize = 0;
-    while p < m {
-        if mask::has(sets[p], k) {
-            if !mask::has(residence, p) {
-                return true;
-            }
+    for p in 0..m {
+        if mask::has(sets[p], k) && !mask::has(residence, p) {
+            return true;
         }
-        p += 1;
     }
     false
 }
@@ -86,12 +72,10 @@ fn memory_of(tasks: Tasks, set: u32) -> u64
 {
     let n = tasks.count;
     let mut sum: u64 = 0;
-    let mut k: usize = 0;
-    while k < n {
+    for k in 0..n {
         if mask::has(set, k) {
             sum += wide(tasks.memory[k]);
         }
-        k += 1;
     }
     sum
 }
@@ -103,12 +87,10 @@ fn load_of(tasks: Tasks, h: u64, set: u32) -> Load
 {
     let n = tasks.count;
     let mut load = Load::IDLE;
-    let mut k: usize = 0;
-    while k < n {
+    for k in 0..n {
         if mask::has(set, k) {
             load = load.with_task(tasks.c[k], tasks.t[k], h);
         }
-        k += 1;
     }
     load
 }
@@ -144,12 +126,10 @@ fn traffic_of(t: Table, sets: [u32; 8]) -> u64
     let messages = t.messages;
     let n = messages.count;
     let mut sum: u64 = 0;
-    let mut j: usize = 0;
-    while j < n {
+    for j in 0..n {
         if crosses(t, sets, j) {
             sum += amount_of(t, j);
         }
-        j += 1;
     }
     sum
 }
@@ -195,32 +175,29 @@ fn concerned(t: Table, rule: Rule) -> usize
     }
 }
 
-// The rule broken at the lowest number concerned; where it is kept, what the later rules say.
-fn check_rule(t: Table, sets: [u32; 8], responses: [u32; 24], rule: Rule, later: Check) -> Check
+// Whether the rule is kept; where it is broken, with the lowest number concerned.
+fn check_rule(t: Table, sets: [u32; 8], responses: [u32; 24], rule: Rule) -> Result<(), Broken>
     requires { Sound t }
-    ensures { result ≡ check_rule t (standing sets) (missed responses) rule later }
+    ensures { result ≡ check_rule t (standing sets) (missed responses) rule }
 {
-    let n = concerned(t, rule);
-    let mut k: usize = 0;
-    while k < n {
-        if breaks(t, sets, responses, rule, k) {
-            return Check::Broken(rule, k);
+    for number in 0..concerned(t, rule) {
+        if breaks(t, sets, responses, rule, number) {
+            return Err(Broken { rule, number });
         }
-        k += 1;
     }
-    later
+    Ok(())
 }
 
 // The first broken rule, from the sets of tasks on the processors and the tasks' responses.
-pub fn first_broken(t: Table, sets: [u32; 8], responses: [u32; 24]) -> Check
+pub fn first_broken(t: Table, sets: [u32; 8], responses: [u32; 24]) -> Result<(), Broken>
     requires { Sound t }
     ensures { result ≡ first_broken t (standing sets) (missed responses) }
 {
-    let deadline = check_rule(t, sets, responses, Rule::Deadline, Check::Kept);
-    let network = check_rule(t, sets, responses, Rule::Network, deadline);
-    let utilisation = check_rule(t, sets, responses, Rule::Utilisation, network);
-    let memory = check_rule(t, sets, responses, Rule::Memory, utilisation);
-    let exclusion = check_rule(t, sets, responses, Rule::Exclusion, memory);
-    let co_residence = check_rule(t, sets, responses, Rule::CoResidence, exclusion);
-    check_rule(t, sets, responses, Rule::Residence, co_residence)
+    check_rule(t, sets, responses, Rule::Residence)?;
+    check_rule(t, sets, responses, Rule::CoResidence)?;
+    check_rule(t, sets, responses, Rule::Exclusion)?;
+    check_rule(t, sets, responses, Rule::Memory)?;
+    check_rule(t, sets, responses, Rule::Utilisation)?;
+    check_rule(t, sets, responses, Rule::Network)?;
+    check_rule(t, sets, responses, Rule::Deadline)
 }

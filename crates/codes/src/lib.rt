@@ -4,12 +4,13 @@
 ghost use Rattle.std.specs.Prelude.{◌≡◌, ◌≤◌};
 ghost use Rattle.table.specs.Refusal.{cause_number};
 ghost use Rattle.rules.specs.Rules.{rule_number};
-ghost use Rattle.judge.specs.Judge.{judgement_number};
+ghost use Rattle.judge.specs.Judge.{check_number, judgement_number};
 ghost use Rattle.conflict.specs.Conflict as conflicts;
 
 use conflict::Finding;
-use judge::Judgement;
-use rules::Rule;
+use judge::Judged;
+use rules::{Broken, Rule};
+use table::Refusal;
 use verdict::Cause;
 
 // The number of a cause.
@@ -50,14 +51,23 @@ fn rule_number(rule: Rule) -> u16
     }
 }
 
-// The number that the buyer's configuration tool takes back: the refusal's, or 0, or the broken rule's.
-pub fn judgement_number(j: Judgement) -> u16
-    ensures { result ≡ judgement_number j }
+// The number of a check: 0, or the broken rule's.
+pub fn check_number(check: Result<(), Broken>) -> u16
+    ensures { result ≡ check_number check }
 {
-    match j {
-        Judgement::Refused(cause, _) => cause_number(cause),
-        Judgement::Kept => 0,
-        Judgement::Broken(rule, _) => rule_number(rule),
+    match check {
+        Ok(()) => 0,
+        Err(broken) => rule_number(broken.rule),
+    }
+}
+
+// The number that the buyer's configuration tool takes back: the refusal's, or 0, or the broken rule's.
+pub fn judgement_number(judgement: Result<Judged, Refusal>) -> u16
+    ensures { result ≡ judgement_number judgement }
+{
+    match judgement {
+        Ok(judged) => check_number(judged.check),
+        Err(refusal) => cause_number(refusal.cause),
     }
 }
 

@@ -1,7 +1,6 @@
 -- Counting late sets: the loop's steps. Assumes nothing.
 use mathlib.Core.Path.{◌≡◌, refl}
 use mathlib.Core.Bool.{Bool, true, false}
-use mathlib.Core.List.{List}
 use Prim.Native.Nat.{ℕ, ◌+◌}
 use native.Mathlib.Numerals.{add-one}
 use native.Mathlib.Omega.{arith}
@@ -12,6 +11,7 @@ use Rattle.schedule.specs.Response.{late_test}
 use Rattle.schedule.specs.Arrays.{InLimits, tasks_of, Says}
 use Rattle.schedule.proofs.LateSets.{late_says}
 use Rattle.schedule.proofs.TasksOfArrays.{valid_of, constrained_of}
+use Rattle.schedule.specs.declared.Timing.{Timing}
 
 says_same : (A : Type 0) (a b : Bool) → Says a A → Says b A → a ≡ b
 says_same A true true p q = refl
@@ -20,7 +20,7 @@ says_same A false true p q = absurd (p q)
 says_same A false false p q = refl
 
 -- the answer that is right of the tick run is the test by responses
-pub late_is : {n : ℕ} {rows : List (List ℕ)} {set : ℕ} → InLimits n rows set → (r : Bool)
+pub late_is : {n : ℕ} {rows : Timing} {set : ℕ} → InLimits n rows set → (r : Bool)
     → Says r (LateSet (tasks_of n rows) (has set)) → r ≡ late_test (tasks_of n rows) (has set)
 late_is {n} {rows} {set} l r h = says_same (LateSet (tasks_of n rows) (has set)) r (late_test (tasks_of n rows) (has set)) h (late_says (tasks_of n rows) (valid_of l) (has set) (constrained_of l))
 

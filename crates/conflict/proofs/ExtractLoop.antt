@@ -1,7 +1,7 @@
 -- The loop that drops tasks while the rest stays late: its invariant and its laws. Assumes nothing.
 use mathlib.Core.Path.{◌≡◌}
 use Prim.Native.Nat.{ℕ, ◌^◌, ◌<◌}
-use Rattle.mask.specs.Mask.{has, Subset, remove_of, lowest_of}
+use Rattle.mask.specs.Mask.{has, Subset, remove_of, ComesNext}
 use Rattle.mask.proofs.Laws.{remove_not, remove_subset, remove_mono}
 use Rattle.mask.proofs.Visit.{Visit, visit_start, visit_next, visit_end, visit_map}
 use Rattle.schedule.specs.Periodic.{Tasks, Valid, Constrained, LateSet}
@@ -12,7 +12,7 @@ use Rattle.conflict.specs.Conflict.{Needed, MinimalWithin}
 pub record Dropping (s : Tasks) (set kept left : ℕ) : Type 0 where
   pub inside : Subset kept set
   pub late : LateSet s (has kept)
-  pub tried : Visit 32 set left (Needed s kept)
+  pub tried : Visit set left (Needed s kept)
 
 pub dropping_start : {s : Tasks} {set : ℕ} → set < 2 ^ 32 → LateSet s (has set) → Dropping s set set set
 dropping_start h l = record { inside = λ k u. u; late = l; tried = visit_start h }
@@ -23,15 +23,15 @@ dropping_end w e = record {
   minimal = record { late = w.late; needed = λ k u. visit_end w.tried e k (w.inside k u) u };
 }
 
-module _ {s : Tasks} {set kept left k next : ℕ} (w : Dropping s set kept left) (some : 0 < left) (e : k ≡ lowest_of 32 left) (r : next ≡ remove_of left k) where
+module _ {s : Tasks} {set kept left k next : ℕ} (w : Dropping s set kept left) (c : ComesNext left k next) where
   pub dropping_keep : Needed s kept k → Dropping s set kept next
-  dropping_keep f = record { inside = w.inside; late = w.late; tried = visit_next w.tried some e r f }
+  dropping_keep f = record { inside = w.inside; late = w.late; tried = visit_next w.tried c f }
 
   pub dropping_drop : Valid s → Constrained s → {rest : ℕ} → rest ≡ remove_of kept k → LateSet s (has rest) → Dropping s set rest next
   dropping_drop v h {rest} q l = record {
     inside = λ j u. w.inside j (smaller j u);
     late = l;
-    tried = visit_next (visit_map still w.tried) some e r (λ u. absurd (remove_not kept k (rw q at u)));
+    tried = visit_next (visit_map still w.tried) c (λ u. absurd (remove_not kept k (rw q at u)));
   }
     where
       smaller : Subset rest kept

@@ -1,7 +1,6 @@
 -- The finding by the responses is right of the tick run, and no other is. Assumes nothing.
 use mathlib.Core.Path.{◌≡◌, refl, sym, subst}
 use mathlib.Core.Bool.{Bool, true, false, ◌&&◌}
-use mathlib.Core.List.{List}
 use Prim.Native.Nat.{ℕ}
 use lib.Dec.{T}
 use Rattle.finite.proofs.Some.{some_intro, some_elim}
@@ -16,6 +15,7 @@ use Rattle.schedule.proofs.TasksOfArrays.{valid_of, constrained_of}
 use Rattle.conflict.specs.declared.Finding.{Finding}
 use Rattle.conflict.specs.declared.Finding.TheVariants.{NoConflict, NotMinimal, MinimalConflict}
 use Rattle.conflict.specs.Conflict.{Needed, Minimal, Right, pick_finding, smaller_late, finding_of, Checked}
+use Rattle.schedule.specs.declared.Timing.{Timing}
 
 -- one finding is right
 right_unique : (s : Tasks) (set : ℕ) (a b : Finding) → Right s set a → Right s set b → a ≡ b
@@ -62,5 +62,5 @@ module _ (s : Tasks) (valid : Valid s) (short : Constrained s) (set : ℕ) (task
   checked : (v : Finding) → Right s set v → Checked s set v
   checked v p = record { value = right_unique s set v (finding_of s set) p finding_right; right = p }
 
-pub checked_of : {n : ℕ} {rows : List (List ℕ)} {set : ℕ} → InLimits n rows set → (v : Finding) → Right (tasks_of n rows) set v → Checked (tasks_of n rows) set v
+pub checked_of : {n : ℕ} {rows : Timing} {set : ℕ} → InLimits n rows set → (v : Finding) → Right (tasks_of n rows) set v → Checked (tasks_of n rows) set v
 checked_of {n} {rows} {set} a = checked (tasks_of n rows) (valid_of a) (constrained_of a) set a.inside

@@ -12,7 +12,7 @@ ghost use Rattle.conflict.specs.Entry.{Answered, AnsweredFor};
 ghost use Rattle.conflict.specs.Count.{late_as_number, late_count, late_count_of};
 
 use schedule::Timing;
-use table::{Outcome, Table};
+use table::{Refusal, Table};
 use verdict::Cause;
 
 // What a conflict check finds. finding_number of specs/Conflict.antt gives its number.
@@ -23,13 +23,6 @@ pub enum Finding {
     MinimalConflict,
 }
 
-// The answer to a conflict check: a refusal with its place, or what was found.
-#[derive(Clone, Copy)]
-pub enum Answer {
-    Refused(Cause, usize),
-    Found(Finding),
-}
-
 // Whether the set is late, and stays so with some task left out.
 fn classify(timing: &Timing, n: usize, set: u32) -> Finding
     requires { InLimits n timing.now set }
@@ -38,14 +31,11 @@ fn classify(timing: &Timing, n: usize, set: u32) -> Finding
     if !schedule::is_late(timing, n, set) {
         return Finding::NoConflict;
     }
-    let mut untried = set;
-    while untried != 0 {
-        let k = mask::lowest(untried);
+    for k in mask::members(set) {
         let rest = mask::remove(set, k);
         if schedule::is_late(timing, n, rest) {
             return Finding::NotMinimal;
         }
-        untried = mask::remove(untried, k);
     }
     Finding::MinimalConflict
 }
@@ -56,43 +46,38 @@ pub fn extract(timing: &Timing, n: usize, set: u32) -> u32
     ensures { MinimalWithin (tasks_of n timing.now) set result }
 {
     let mut kept = set;
-    let mut left = set;
-    while left != 0 {
-        let k = mask::lowest(left);
+    for k in mask::members(set) {
         let rest = mask::remove(kept, k);
         if schedule::is_late(timing, n, rest) {
             kept = rest;
         }
-        left = mask::remove(left, k);
     }
     kept
 }
 
 // The check on a table that was read. A mask with an unknown task or fewer than two is refused.
-fn check_table(table: Table, mask: u32) -> Answer
+fn check_table(table: Table, mask: u32) -> Result<Finding, Refusal>
     requires { Sound table }
     ensures { AnsweredFor table mask result }
 {
     let tasks = table.tasks;
     let n = tasks.count;
     if !mask::is_group(mask, n) {
-        return Answer::Refused(Cause::NoConflictMask, 0);
+        return Err(Refusal {
+            cause: Cause::NoConflictMask,
+            place: 0,
+        });
     }
     let timing = timing::timing_of(table);
-    Answer::Found(classify(&timing, n, mask))
+    Ok(classify(&timing, n, mask))
 }
 
 // Whether a set of the file's tasks is a conflict, and a minimal one.
-pub fn check_conflict(file: &[u8], mask: u32) -> Answer
+pub fn check_conflict(file: &[u8], mask: u32) -> Result<Finding, Refusal>
     ensures { Answered file.now mask result }
 {
-    let reading = table::read(file);
-    let outcome = reading.outcome;
-    let table = reading.table;
-    match outcome {
-        Outcome::Refused(cause, at) => Answer::Refused(cause, at),
-        Outcome::Readable => check_table(table, mask),
-    }
+    let table = table::read(file)?;
+    check_table(table, mask)
 }
 
 // 1 where the set names only tasks of the table and is late, else 0.
@@ -100,10 +85,8 @@ fn late_as_number(timing: &Timing, n: usize, set: u32) -> u64
     requires { InLimits n timing.now 0 }
     ensures { (result ≡ late_as_number (tasks_of n timing.now) set) × (result ≤ 1) }
 {
-    if mask::only_below(set, n) {
-        if schedule::is_late(timing, n, set) {
-            return 1;
-        }
+    if mask::only_below(set, n) && schedule::is_late(timing, n, set) {
+        return 1;
     }
     0
 }
@@ -117,10 +100,8 @@ fn count_late_of(table: Table, sets: &[u32]) -> u64
     let n = tasks.count;
     let timing = timing::timing_of(table);
     let mut count: u64 = 0;
-    let mut j: usize = 0;
-    while j < sets.len() {
-        count += late_as_number(&timing, n, sets[j]);
-        j += 1;
+    for set in sets {
+        count += late_as_number(&timing, n, *set);
     }
     count
 }
@@ -129,11 +110,8 @@ fn count_late_of(table: Table, sets: &[u32]) -> u64
 pub fn count_late(file: &[u8], sets: &[u32]) -> u64
     ensures { result ≡ late_count_of file.now sets.now }
 {
-    let reading = table::read(file);
-    let outcome = reading.outcome;
-    let table = reading.table;
-    match outcome {
-        Outcome::Refused(_, _) => 0,
-        Outcome::Readable => count_late_of(table, sets),
+    match table::read(file) {
+        Ok(table) => count_late_of(table, sets),
+        Err(_) => 0,
     }
 }

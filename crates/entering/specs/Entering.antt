@@ -1,5 +1,5 @@
 -- What is known of a task that was tried on a processor.
-use Rattle.std.specs.Prelude.{◌≡◌, Bool, true, false, List, ℕ}
+use Rattle.std.specs.Prelude.{◌≡◌, Option, Some, None, IfSome, List, ℕ}
 use Rattle.table.specs.declared.Table.{Table}
 use Rattle.rules.specs.Placement.{and_task}
 use Rattle.rules.specs.Sets.{standing}
@@ -13,18 +13,18 @@ use Rattle.region.specs.Begins.{Stands, Begins}
 use Rattle.entering.specs.declared.Entered.{Entered}
 
 -- the answer on task k on processor p: no placement there, or a state to go on from, of which After is known
-abbrev pub EntersAs : (State → Type 0) → Bool → Table → Mode → State → ℕ → ℕ → List ℕ → ℕ → State → Type 0
-EntersAs After false t mode s k p list count next = Refuted t (Bad (tasks_in t) mode.listing list count) (Within (and_task (standing s.on) k p))
-EntersAs After true t mode s k p list count next = Stepped t s k p next × After next
+abbrev pub EntersAs : (State → Type 0) → Table → Mode → State → ℕ → ℕ → List ℕ → ℕ → Option State → Type 0
+EntersAs After t mode s k p list count None = Refuted t (Bad (tasks_in t) mode.listing list count) (Within (and_task (standing s.on) k p))
+EntersAs After t mode s k p list count (Some next) = Stepped t s k p next × After next
 
 pub record TestedAs (After : List ℕ → ℕ → State → Type 0) (t : Table) (mode : Mode) (s : State) (k p : ℕ) (old : List ℕ) (before : ℕ) (new : List ℕ) (r : Entered) : Type 0 where
   pub list : Extended (Met t (Within (and_task (standing s.on) k p))) (tasks_in t) old before new r.count
-  pub answer : EntersAs (After new r.count) r.passes t mode s k p new r.count r.next
+  pub answer : EntersAs (After new r.count) t mode s k p new r.count r.next
 
 -- the test alone: what may stand on each processor is as it was
 pub record AdmittedAs (t : Table) (mode : Mode) (s : State) (k p : ℕ) (old : List ℕ) (before : ℕ) (new : List ℕ) (r : Entered) : Type 0 where
   pub tested : TestedAs (λ list count next. Stands t mode next list count) t mode s k p old before new r
-  pub same_may : r.next.may ≡ s.may
+  pub same_may : IfSome r.next (λ next. next.may ≡ s.may)
 
 -- with what may stand on each processor then
 abbrev pub EnteredAs : Table → Mode → State → ℕ → ℕ → List ℕ → ℕ → List ℕ → Entered → Type 0

@@ -1,8 +1,10 @@
 -- The region of a task on a processor: entered, then decided or covered. Assumes nothing.
 use mathlib.Core.Path.{◌≡◌, sym, subst}
-use mathlib.Core.Bool.{Bool, true, false}
+use mathlib.Core.Bool.{Bool, false}
 use mathlib.Core.List.{List}
+use Rattle.std.proofs.Common.{Option, Some, None}
 use Prim.Native.Nat.{ℕ}
+use Rattle.std.specs.Prelude.{Option}
 use Rattle.table.specs.declared.Table.{Table}
 use Rattle.schedule.specs.Periodic.{LateSet}
 use Rattle.rules.specs.Placement.{and_task}
@@ -22,33 +24,35 @@ use Rattle.restarts.specs.Restarts.{NoneGood, DecidedAs, CoveringAs}
 module _ {t : Table} {s : State} {k p : ℕ} {old mid : List ℕ} {before : ℕ} (e : Entered) where
   -- in the way that decides
   module _ {limited : Bool} (w : AdmittedAs t (quiet limited) s k p old before mid e) where
-    entered : (b : Bool) → e.passes ≡ b → EntersAs (λ n. Stands t (quiet limited) n mid e.count) b t (quiet limited) s k p mid e.count e.next
-    entered b f = subst (λ (x : Bool). EntersAs (λ n. Stands t (quiet limited) n mid e.count) x t (quiet limited) s k p mid e.count e.next) f w.tested.answer
+    entered : (o : Option State) → e.next ≡ o → EntersAs (λ n. Stands t (quiet limited) n mid e.count) t (quiet limited) s k p mid e.count o
+    entered o f = subst (EntersAs (λ n. Stands t (quiet limited) n mid e.count) t (quiet limited) s k p mid e.count) f w.tested.answer
 
-    pub decided_closed : e.passes ≡ false → Refuted t (LateSet (tasks_in t)) (Within (and_task (standing s.on) k p))
-    decided_closed f = entered false f
+    pub decided_closed : e.next ≡ None → Refuted t (LateSet (tasks_in t)) (Within (and_task (standing s.on) k p))
+    decided_closed f = entered None f
 
-    pub entered_ready : e.passes ≡ true → Ready t e.next
-    entered_ready f = let b = (entered true f).1 in record { fits = b.fits; in_time = b.clear }
+    module _ {next : State} (f : e.next ≡ Some next) where
+      pub entered_ready : Ready t next
+      entered_ready = let b = (entered (Some next) f).1 in record { fits = b.fits; in_time = b.clear }
 
-    pub decided_open : e.passes ≡ true → (found : Bool) (sets : List ℕ) → DecidedAs found t (standing e.next.on) sets → DecidedAs found t (and_task (standing s.on) k p) sets
-    decided_open f found sets = subst (λ (on : ℕ → ℕ → Bool). DecidedAs found t on sets) (entered true f).0.on
+      pub decided_open : (d : Option (List ℕ)) → DecidedAs t (standing next.on) d → DecidedAs t (and_task (standing s.on) k p) d
+      decided_open d = subst (λ (on : ℕ → ℕ → Bool). DecidedAs t on d) (entered (Some next) f).0.on
 
   -- in the way that lists
   module _ (w : AdmittedAs t lists s k p old before mid e) where
-    listed : (b : Bool) → e.passes ≡ b → EntersAs (λ n. Stands t lists n mid e.count) b t lists s k p mid e.count e.next
-    listed b f = subst (λ (x : Bool). EntersAs (λ n. Stands t lists n mid e.count) x t lists s k p mid e.count e.next) f w.tested.answer
+    listed : (o : Option State) → e.next ≡ o → EntersAs (λ n. Stands t lists n mid e.count) t lists s k p mid e.count o
+    listed o f = subst (EntersAs (λ n. Stands t lists n mid e.count) t lists s k p mid e.count) f w.tested.answer
 
-    pub covering_closed : e.passes ≡ false → CoveringAs t (and_task (standing s.on) k p) old before mid (record { cut = false; count = e.count })
-    covering_closed f = record { list = w.tested.list; mark = listed false f }
+    pub covering_closed : e.next ≡ None → CoveringAs t (and_task (standing s.on) k p) old before mid (record { cut = false; count = e.count })
+    covering_closed f = record { list = w.tested.list; mark = listed None f }
 
-    pub entered_begins : e.passes ≡ true → Begins t lists e.next mid e.count
-    entered_begins f = stands_lists (listed true f).1
+    module _ {next : State} (f : e.next ≡ Some next) where
+      pub entered_begins : Begins t lists next mid e.count
+      entered_begins = stands_lists (listed (Some next) f).1
 
-    pub entered_none : e.passes ≡ true → NoneGood t (and_task (standing s.on) k p) → NoneGood t (standing e.next.on)
-    entered_none f none = subst (λ (on : ℕ → ℕ → Bool). NoneGood t on) (sym (listed true f).0.on) none
+      pub entered_none : NoneGood t (and_task (standing s.on) k p) → NoneGood t (standing next.on)
+      entered_none none = subst (λ (on : ℕ → ℕ → Bool). NoneGood t on) (sym (listed (Some next) f).0.on) none
 
-    pub covering_open : e.passes ≡ true → {new : List ℕ} (r : Listed) → CoveringAs t (standing e.next.on) mid e.count new r → CoveringAs t (and_task (standing s.on) k p) old before new r
-    covering_open f {new} r x =
-        let y = subst (λ (on : ℕ → ℕ → Bool). CoveringAs t on mid e.count new r) (listed true f).0.on x in
-        record { list = extended_trans w.tested.list y.list; mark = y.mark }
+      pub covering_open : {new : List ℕ} (r : Listed) → CoveringAs t (standing next.on) mid e.count new r → CoveringAs t (and_task (standing s.on) k p) old before new r
+      covering_open {new} r x =
+          let y = subst (λ (on : ℕ → ℕ → Bool). CoveringAs t on mid e.count new r) (listed (Some next) f).0.on x in
+          record { list = extended_trans w.tested.list y.list; mark = y.mark }

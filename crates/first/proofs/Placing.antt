@@ -1,8 +1,10 @@
 -- The search for the first placement: a task on a processor, taken or passed over; the loop over the processors; the next task. Assumes nothing.
-use mathlib.Core.Path.{◌≡◌, refl, sym, subst, ◌∙◌}
+use mathlib.Core.Path.{◌≡◌, refl, sym, ap, subst, ◌∙◌}
 use mathlib.Core.Logic.{inl}
 use mathlib.Core.Bool.{Bool, true, false, ◌&&◌, true≢false}
 use mathlib.Core.List.{List}
+use Rattle.std.proofs.Common.{Option, Some, None}
+use Rattle.std.specs.Prelude.{IsSome}
 use Prim.Native.Nat.{ℕ, ◌+◌, ◌≤◌, ◌<◌}
 use native.Mathlib.Omega.{arith}
 use native.Mathlib.Decide.{ℕ_discrete, dec_lt}
@@ -12,6 +14,7 @@ use lib.ListN.{get_or}
 use Rattle.finite.proofs.Some.{or_right}
 use Rattle.mask.specs.Mask.{has, remove_of}
 use Rattle.mask.proofs.Laws.{has_remove, remove_not, remove_subset}
+use Rattle.std.specs.Prelude.{Option, Some, None, is_some}
 use Rattle.table.specs.declared.Table.{Table}
 use Rattle.table.specs.Sound.{Sound}
 use Rattle.schedule.specs.Periodic.{LateSet}
@@ -33,7 +36,6 @@ use Rattle.region.proofs.Refuting.{and_there, and_part, and_within}
 use Rattle.region.proofs.Settling.{settled_nothing, settled_covered, settled_cut, settled_passed, first_start, first_pass, first_step, first_end}
 use Rattle.symmetry.specs.Symmetry.{Interchangeable}
 use Rattle.symmetry.proofs.Swap.{swap_refuted}
-use Rattle.restarts.specs.declared.Decided.{Decided}
 use Rattle.restarts.specs.declared.Listed.{Listed}
 use Rattle.restarts.specs.Restarts.{DecidedAs, CutAs, CoveringAs}
 use Rattle.first.specs.declared.Tried.{Tried}
@@ -47,6 +49,13 @@ held e f = subst T (sym (sym e ∙ f)) tt
 pub not_held : {b x : Bool} → b ≡ x → b ≡ false → T x → ⊥
 not_held e f u = subst T (sym e ∙ f) u
 
+pub some_found : {d : Option (List ℕ)} {b : Bool} → b ≡ is_some d → b ≡ true → d ≡ None → ⊥
+some_found e f g = true≢false (sym f ∙ e ∙ ap is_some g)
+
+pub none_found : (d : Option (List ℕ)) {b : Bool} → b ≡ is_some d → b ≡ false → d ≡ None
+none_found (Some sets) e f = absurd (true≢false (sym e ∙ f))
+none_found None e f = refl
+
 module _ {t : Table} (h : Sound t) {s : State} {k : ℕ} {witness list : List ℕ} {count : ℕ} (w : Placing t s k witness list count) where
   -- the sets of the state are not late, being part of a good placement
   in_time : (p : ℕ) → InTime t (has (get_or s.on p 0))
@@ -59,9 +68,9 @@ module _ {t : Table} (h : Sound t) {s : State} {k : ℕ} {witness list : List �
   listing = record { fits = w.fits; nogoods = w.nogoods; clear = λ p. inl (in_time p) }
 
   -- the rules allow a task where a good placement has it
-  pub step_taken : {sets : List ℕ} (p : ℕ) → Witness t (InTime t) (and_task (standing s.on) k p) sets → (allowed : Bool) {next : State} → StepOf t s k p allowed next → Stepped t s k p next
-  step_taken {sets} p g true a = a
-  step_taken {sets} p g false a = absurd (a (keeps_part t (and_task (standing s.on) k p) (standing sets) g.part g.keeps))
+  pub step_taken : {sets : List ℕ} (p : ℕ) → Witness t (InTime t) (and_task (standing s.on) k p) sets → (r : Option State) → StepOf t s k p r → IsSome r
+  step_taken {sets} p g (Some next) a = refl
+  step_taken {sets} p g None a = absurd (a (keeps_part t (and_task (standing s.on) k p) (standing sets) g.part g.keeps))
 
   -- the next task
   pub placing_next : {sets new : List ℕ} {next : State} {p at : ℕ} → k < t.tasks.count → Nogoods (tasks_in t) new at → Witness t (InTime t) (and_task (standing s.on) k p) sets → Stepped t s k p next
@@ -83,14 +92,14 @@ module _ {t : Table} (h : Sound t) {s : State} {k : ℕ} {witness list : List �
 
 module _ {t : Table} {s : State} {k p : ℕ} {witness list : List ℕ} {listed : Listed} (x : Trying t s k p witness list listed) where
   -- the good placement at hand has task k there
-  pub tried_held : T (standing witness k p) → TriedAs t s k p witness list listed list (record { taken = true; on = witness; listed = listed })
+  pub tried_held : T (standing witness k p) → TriedAs t s k p witness list listed list (record { placement = Some witness; listed = listed })
   tried_held u =
       let g = x.placing.good in
       (refl, refl, record { part = and_within (standing s.on) k p (standing witness) g.part u; whole = g.whole; keeps = g.keeps; clear = g.clear })
 
   -- it is interchangeable with a processor that was passed over
   pub tried_symmetric : (T (standing witness k p) → ⊥) → (q : ℕ) → q < p → Interchangeable t s q p
-      → TriedAs t s k p witness list listed list (record { taken = false; on = witness; listed = listed })
+      → TriedAs t s k p witness list listed list (record { placement = None; listed = listed })
   tried_symmetric f q a i = (
     record { refuted = swapped (LateSet (tasks_in t)) (x.passed.refuted q a); list = extended_refl x.placing.nogoods; mark = mark listed.cut (x.passed.covered q a) },
     f,
@@ -104,36 +113,28 @@ module _ {t : Table} {s : State} {k p : ℕ} {witness list : List ℕ} {listed :
       mark false g = (refl, swapped (Covered list listed.count) (g refl))
       mark true g = inl refl
 
-  module _ (d : Decided) (y : DecidedAs d.found t (and_task (standing s.on) k p) d.on) where
-    answered : (b : Bool) → d.found ≡ b → DecidedAs b t (and_task (standing s.on) k p) d.on
-    answered b e = subst (λ (c : Bool). DecidedAs c t (and_task (standing s.on) k p) d.on) e y
+  -- one is found; or none is there, and the list is cut already
+  pub tried_decided : (d : Option (List ℕ)) → DecidedAs t (and_task (standing s.on) k p) d → (T (standing witness k p) → ⊥) → (d ≡ None → listed.cut ≡ true)
+      → TriedAs t s k p witness list listed list (record { placement = d; listed = listed })
+  tried_decided (Some sets) y f c = (refl, refl, y)
+  tried_decided None y f c = (
+    subst (λ (b : Bool). Settled t (Within (and_task (standing s.on) k p)) list listed.count b list listed.count b) (sym (c refl)) (settled_passed y x.placing.nogoods),
+    f,
+  )
 
-    -- one is found
-    pub tried_found : d.found ≡ true → TriedAs t s k p witness list listed list (record { taken = true; on = d.on; listed = listed })
-    tried_found e = (refl, refl, answered true e)
-
-    -- none is there, and the list is cut already
-    pub tried_passed : d.found ≡ false → (T (standing witness k p) → ⊥) → listed.cut ≡ true
-        → TriedAs t s k p witness list listed list (record { taken = false; on = witness; listed = listed })
-    tried_passed e f c = (
-      subst (λ (b : Bool). Settled t (Within (and_task (standing s.on) k p)) list listed.count b list listed.count b) (sym c)
-          (settled_passed (answered false e) x.placing.nogoods),
-      f,
-    )
-
-    -- none is there, and the conflicts are listed
-    pub tried_listed : Sound t → d.found ≡ false → (T (standing witness k p) → ⊥) → listed.cut ≡ false
-        → {new : List ℕ} (r : Listed) → CoveringAs t (and_task (standing s.on) k p) list listed.count new r
-        → TriedAs t s k p witness list listed new (record { taken = false; on = witness; listed = r })
-    tried_listed h e f c {new} r z = (
-      subst (λ (b : Bool). Settled t (Within (and_task (standing s.on) k p)) list listed.count b new r.count r.cut) (sym c) (go r.cut z.mark),
-      f,
-    )
-      where
-        go : (b : Bool) → CutAs b t (and_task (standing s.on) k p) new r.count
-            → Settled t (Within (and_task (standing s.on) k p)) list listed.count false new r.count b
-        go false a = settled_covered (answered false e) z.list a
-        go true a = settled_cut h (answered false e) z.list a.1
+  -- none is there, and the conflicts are listed
+  pub tried_listed : Sound t → DecidedAs t (and_task (standing s.on) k p) None → (T (standing witness k p) → ⊥) → listed.cut ≡ false
+      → {new : List ℕ} (r : Listed) → CoveringAs t (and_task (standing s.on) k p) list listed.count new r
+      → TriedAs t s k p witness list listed new (record { placement = None; listed = r })
+  tried_listed h y f c {new} r z = (
+    subst (λ (b : Bool). Settled t (Within (and_task (standing s.on) k p)) list listed.count b new r.count r.cut) (sym c) (go r.cut z.mark),
+    f,
+  )
+    where
+      go : (b : Bool) → CutAs b t (and_task (standing s.on) k p) new r.count
+          → Settled t (Within (and_task (standing s.on) k p)) list listed.count false new r.count b
+      go false a = settled_covered y z.list a
+      go true a = settled_cut h y z.list a.1
 
 -- ---- the loop over the processors of task k
 
@@ -179,9 +180,9 @@ module _ {t : Table} {s : State} {k p : ℕ} {witness old list : List ℕ} {befo
 
   module _ (new : List ℕ) (r : Tried) (y : TriedAs t s k p witness list at new r) where
     -- task k is passed over on p
-    pub passing_next : k < t.tasks.count → r.taken ≡ false → Passing t s k witness old before (p + 1) new r.listed
+    pub passing_next : k < t.tasks.count → r.placement ≡ None → Passing t s k witness old before (p + 1) new r.listed
     passing_next l e =
-        let z = subst (λ (b : Bool). TriesAs b t s k p witness list at new r) e y in
+        let z = subst (λ (d : Option (List ℕ)). TriesAs d t s k p witness list at new r.listed) e y in
         record { settled = first_pass (standing s.on) x.settled z.0 l; absent = λ q a. go q a z.1 (dec_lt q p) }
       where
         go : (q : ℕ) → q < p + 1 → (T (standing witness k p) → ⊥) → Dec (q < p) → T (standing witness k q) → ⊥
@@ -189,11 +190,11 @@ module _ {t : Table} {s : State} {k p : ℕ} {witness old list : List ℕ} {befo
         go q a f (no b) = let i : p ≡ q = omega arith in subst (λ (j : ℕ). T (standing witness k j) → ⊥) i f
 
     -- it is taken there
-    module _ (e : r.taken ≡ true) where
-      taken : TriesAs true t s k p witness list at new r
-      taken = subst (λ (b : Bool). TriesAs b t s k p witness list at new r) e y
+    module _ {held : List ℕ} (e : r.placement ≡ Some held) where
+      taken : TriesAs (Some held) t s k p witness list at new r.listed
+      taken = subst (λ (d : Option (List ℕ)). TriesAs d t s k p witness list at new r.listed) e y
 
-      pub taken_good : Witness t (InTime t) (and_task (standing s.on) k p) r.on
+      pub taken_good : Witness t (InTime t) (and_task (standing s.on) k p) held
       taken_good = taken.2
 
       settled_so_far : SettledBy t (λ e. Within (standing s.on) e × (get_or e k 0 < p)) old before new r.listed

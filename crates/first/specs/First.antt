@@ -1,5 +1,5 @@
 -- What the functions of the search for the first placement begin with, and what they leave.
-use Rattle.std.specs.Prelude.{◌≡◌, Bool, true, false, List, ℕ, ◌≤◌, ◌<◌, T}
+use Rattle.std.specs.Prelude.{◌≡◌, Bool, false, Option, Some, None, List, ℕ, ◌≤◌, ◌<◌, T}
 use Rattle.mask.specs.Mask.{has}
 use Rattle.table.specs.declared.Table.{Table}
 use Rattle.schedule.specs.Periodic.{LateSet}
@@ -47,12 +47,12 @@ abbrev pub SettledBy : Table → (List ℕ → Type 0) → List ℕ → Listed �
 SettledBy t P old before new after = Settled t P old before.count before.cut new after.count after.cut
 
 -- task k on processor p: taken, since a good placement has it there; or every placement that has it there is settled
-abbrev pub TriesAs : Bool → Table → State → ℕ → ℕ → List ℕ → List ℕ → Listed → List ℕ → Tried → Type 0
-TriesAs true t s k p witness old before new r = (new ≡ old) × (r.listed ≡ before) × Witness t (InTime t) (and_task (standing s.on) k p) r.on
-TriesAs false t s k p witness old before new r = SettledBy t (Within (and_task (standing s.on) k p)) old before new r.listed × (T (standing witness k p) → ⊥)
+abbrev pub TriesAs : Option (List ℕ) → Table → State → ℕ → ℕ → List ℕ → List ℕ → Listed → List ℕ → Listed → Type 0
+TriesAs (Some sets) t s k p witness old before new listed = (new ≡ old) × (listed ≡ before) × Witness t (InTime t) (and_task (standing s.on) k p) sets
+TriesAs None t s k p witness old before new listed = SettledBy t (Within (and_task (standing s.on) k p)) old before new listed × (T (standing witness k p) → ⊥)
 
 abbrev pub TriedAs : Table → State → ℕ → ℕ → List ℕ → List ℕ → Listed → List ℕ → Tried → Type 0
-TriedAs t s k p witness old before new r = TriesAs r.taken t s k p witness old before new r
+TriedAs t s k p witness old before new r = TriesAs r.placement t s k p witness old before new r.listed
 
 -- the first good placement with the tasks where the state has them, and every earlier one settled
 pub record FirstOf (t : Table) (s : State) (old : List ℕ) (before : Listed) (new : List ℕ) (r : Reached) : Type 0 where

@@ -12,20 +12,16 @@ ghost use Rattle.restarts.specs.Restarts.{NoneGood, DecidedAs, CoveringAs};
 ghost use Rattle.bound_cache.specs.BoundCache.{Learnt};
 ghost use Rattle.first.specs.First.{Placing, Trying, TriedAs, FirstOf};
 
-use bound_cache::BoundCache;
+use bound_cache::Caches;
 use heuristics::Heuristics;
-use late_cache::LateCache;
 use nogoods::Mode;
-use partial::{Sizes, State};
-use restarts::{Decided, Listed};
-use rows::{Messages, Rows};
-use schedule::Timing;
+use partial::{Instance, State};
+use restarts::Listed;
 
-// A task on a processor: whether it is taken, the sets of a good placement, and what is listed then.
+// A task on a processor: the sets of a good placement if it is taken, and what is listed then.
 #[derive(Clone, Copy)]
 struct Tried {
-    taken: bool,
-    on: [u32; 8],
+    placement: Option<[u32; 8]>,
     listed: Listed,
 }
 
@@ -36,26 +32,22 @@ pub struct Reached {
     pub listed: Listed,
 }
 
-// Whether a good placement has task k on processor p.
-fn decide_on<'a>(
-    timing: &'a Timing,
-    rows: &'a Rows,
-    messages: &'a Messages,
-    sizes: Sizes,
+// The sets of a good placement that has task k on processor p, if there is one.
+fn decide_on(
+    instance: &Instance,
     s: State,
     k: usize,
     p: usize,
     heuristics: &mut Heuristics,
-    lateness: &mut LateCache,
-    bounds: &mut BoundCache,
-) -> Decided
-    requires { Given sizes timing.now rows.now messages.now (λ t. Ready t s) (λ t. Learnt t rows.now lateness.old bounds.old)
-        × T (has s.left k) × (p < sizes.processors) }
-    ensures { Gives sizes timing.now rows.now messages.now
-        (λ t. Ready t s) (λ t. Learnt t rows.now lateness.old bounds.old)
-        (λ t. DecidedAs result.found t (and_task (standing s.on) k p) result.on × Learnt t rows.now lateness.new bounds.new) }
+    caches: &mut Caches,
+) -> Option<[u32; 8]>
+    requires { Given instance.now (λ t. Ready t s) (λ t. Learnt t instance.now.rows caches.old.lateness caches.old.bounds)
+        × T (has s.left k) × (p < instance.now.sizes.processors) }
+    ensures { Gives instance.now
+        (λ t. Ready t s) (λ t. Learnt t instance.now.rows caches.old.lateness caches.old.bounds)
+        (λ t. DecidedAs t (and_task (standing s.on) k p) result × Learnt t instance.now.rows caches.new.lateness caches.new.bounds) }
 {
-    nogoods::forget(lateness);
+    nogoods::forget(&mut caches.lateness);
     // Deciding lists nothing: it is lent a list without room.
     let mut no_list = [0u8; 3];
     let mode = Mode {
@@ -63,88 +55,60 @@ fn decide_on<'a>(
         limited: true,
     };
     let entered = entering::admit(
-        timing,
-        rows,
-        messages,
-        sizes,
+        instance,
         s,
         k,
         p,
         mode,
         &mut no_list,
         0,
-        lateness,
+        &mut caches.lateness,
     );
-    let next = entered.next;
-    if !entered.passes {
-        let on = s.on;
-        return Decided { found: false, on };
-    }
-    restarts::decide(
-        timing, rows, messages, sizes, next, heuristics, lateness, bounds,
-    )
+    let Some(next) = entered.next else {
+        return None;
+    };
+    restarts::decide(instance, next, heuristics, caches)
 }
 
 // The region of task k on processor p, which has no good placement, is passed over: its conflicts are listed.
-fn pass_over<'a>(
-    timing: &'a Timing,
-    rows: &'a Rows,
-    messages: &'a Messages,
-    sizes: Sizes,
+fn pass_over(
+    instance: &Instance,
     s: State,
     k: usize,
     p: usize,
     list: &mut [u8],
     count: usize,
     heuristics: &mut Heuristics,
-    lateness: &mut LateCache,
-    bounds: &mut BoundCache,
+    caches: &mut Caches,
 ) -> Listed
-    requires { Given sizes timing.now rows.now messages.now
-        (λ t. Stands t lists s list.old count × NoneGood t (and_task (standing s.on) k p)) (λ t. Learnt t rows.now lateness.old bounds.old)
-        × T (has s.left k) × (p < sizes.processors) }
-    ensures { Gives sizes timing.now rows.now messages.now
+    requires { Given instance.now
+        (λ t. Stands t lists s list.old count × NoneGood t (and_task (standing s.on) k p)) (λ t. Learnt t instance.now.rows caches.old.lateness caches.old.bounds)
+        × T (has s.left k) × (p < instance.now.sizes.processors) }
+    ensures { Gives instance.now
         (λ t. Stands t lists s list.old count × NoneGood t (and_task (standing s.on) k p))
-        (λ t. Learnt t rows.now lateness.old bounds.old)
-        (λ t. CoveringAs t (and_task (standing s.on) k p) list.old count list.new result × Learnt t rows.now lateness.new bounds.new) }
+        (λ t. Learnt t instance.now.rows caches.old.lateness caches.old.bounds)
+        (λ t. CoveringAs t (and_task (standing s.on) k p) list.old count list.new result × Learnt t instance.now.rows caches.new.lateness caches.new.bounds) }
 {
     let mode = Mode {
         listing: true,
         limited: false,
     };
-    nogoods::forget(lateness);
-    let entered = entering::admit(
-        timing, rows, messages, sizes, s, k, p, mode, list, count, lateness,
-    );
-    let next = entered.next;
-    if !entered.passes {
+    nogoods::forget(&mut caches.lateness);
+    let entered = entering::admit(instance, s, k, p, mode, list, count, &mut caches.lateness);
+    let Some(next) = entered.next else {
         return Listed {
             cut: false,
             count: entered.count,
         };
-    }
-    restarts::cover(
-        timing,
-        rows,
-        messages,
-        sizes,
-        next,
-        list,
-        entered.count,
-        heuristics,
-        lateness,
-        bounds,
-    )
+    };
+    restarts::cover(instance, next, list, entered.count, heuristics, caches)
 }
 
 // Task k on processor p. It is taken where a good placement has it there: the one at hand, or one that is found.
 // Otherwise the region is passed over, and its conflicts are listed unless the list is cut already.
 // Where p is interchangeable with a lower processor, which was passed over, that holds of p too.
-fn try_processor<'a>(
-    timing: &'a Timing,
-    rows: &'a Rows,
-    messages: &'a Messages,
-    sizes: Sizes,
+fn try_processor(
+    instance: &Instance,
     s: State,
     k: usize,
     p: usize,
@@ -152,119 +116,66 @@ fn try_processor<'a>(
     list: &mut [u8],
     listed: Listed,
     heuristics: &mut Heuristics,
-    lateness: &mut LateCache,
-    bounds: &mut BoundCache,
+    caches: &mut Caches,
 ) -> Tried
-    requires { Given sizes timing.now rows.now messages.now (λ t. Trying t s k p witness list.old listed) (λ t. Learnt t rows.now lateness.old bounds.old)
-        × (k < sizes.tasks) × (p < sizes.processors) }
-    ensures { Gives sizes timing.now rows.now messages.now
-        (λ t. Trying t s k p witness list.old listed) (λ t. Learnt t rows.now lateness.old bounds.old)
-        (λ t. TriedAs t s k p witness list.old listed list.new result × Learnt t rows.now lateness.new bounds.new) }
+    requires { Given instance.now (λ t. Trying t s k p witness list.old listed) (λ t. Learnt t instance.now.rows caches.old.lateness caches.old.bounds)
+        × (k < instance.now.sizes.tasks) × (p < instance.now.sizes.processors) }
+    ensures { Gives instance.now
+        (λ t. Trying t s k p witness list.old listed) (λ t. Learnt t instance.now.rows caches.old.lateness caches.old.bounds)
+        (λ t. TriedAs t s k p witness list.old listed list.new result × Learnt t instance.now.rows caches.new.lateness caches.new.bounds) }
 {
     if mask::has(witness[p], k) {
         return Tried {
-            taken: true,
-            on: witness,
+            placement: Some(witness),
             listed,
         };
     }
-    if symmetry::representative(rows, s, p) < p {
+    if symmetry::representative(&instance.rows, s, p) < p {
         return Tried {
-            taken: false,
-            on: witness,
+            placement: None,
             listed,
         };
     }
-    let decided = decide_on(
-        timing, rows, messages, sizes, s, k, p, heuristics, lateness, bounds,
-    );
-    if decided.found {
-        let on = decided.on;
-        return Tried {
-            taken: true,
-            on,
-            listed,
-        };
+    let placement = decide_on(instance, s, k, p, heuristics, caches);
+    if placement.is_some() || listed.cut {
+        return Tried { placement, listed };
     }
-    if listed.cut {
-        return Tried {
-            taken: false,
-            on: witness,
-            listed,
-        };
-    }
-    let after = pass_over(
-        timing,
-        rows,
-        messages,
-        sizes,
-        s,
-        k,
-        p,
-        list,
-        listed.count,
-        heuristics,
-        lateness,
-        bounds,
-    );
+    let after = pass_over(instance, s, k, p, list, listed.count, heuristics, caches);
     Tried {
-        taken: false,
-        on: witness,
+        placement: None,
         listed: after,
     }
 }
 
 // The search of document 01: task by task, processors in rising number, calling itself for the next task.
-pub fn first<'a>(
-    timing: &'a Timing,
-    rows: &'a Rows,
-    messages: &'a Messages,
-    sizes: Sizes,
+pub fn first(
+    instance: &Instance,
     s: State,
     k: usize,
     witness: [u32; 8],
     list: &mut [u8],
     listed: Listed,
     heuristics: &mut Heuristics,
-    lateness: &mut LateCache,
-    bounds: &mut BoundCache,
+    caches: &mut Caches,
 ) -> Reached
-    requires { Given sizes timing.now rows.now messages.now (λ t. Placing t s k witness list.old listed.count) (λ t. Learnt t rows.now lateness.old bounds.old) }
-    ensures { Gives sizes timing.now rows.now messages.now
-        (λ t. Placing t s k witness list.old listed.count) (λ t. Learnt t rows.now lateness.old bounds.old)
-        (λ t. FirstOf t s list.old listed list.new result × Learnt t rows.now lateness.new bounds.new) }
+    requires { Given instance.now (λ t. Placing t s k witness list.old listed.count) (λ t. Learnt t instance.now.rows caches.old.lateness caches.old.bounds) }
+    ensures { Gives instance.now
+        (λ t. Placing t s k witness list.old listed.count) (λ t. Learnt t instance.now.rows caches.old.lateness caches.old.bounds)
+        (λ t. FirstOf t s list.old listed list.new result × Learnt t instance.now.rows caches.new.lateness caches.new.bounds) }
 {
     let on = s.on;
-    if k == sizes.tasks {
+    if k == instance.sizes.tasks {
         return Reached { on, listed };
     }
     let mut at = listed;
-    let mut p: usize = 0;
-    while p < sizes.processors {
-        let tried = try_processor(
-            timing, rows, messages, sizes, s, k, p, witness, list, at, heuristics, lateness, bounds,
-        );
+    for p in 0..instance.sizes.processors {
+        let tried = try_processor(instance, s, k, p, witness, list, at, heuristics, caches);
         at = tried.listed;
-        if tried.taken {
-            let step = partial::step(rows, messages, sizes, s, k, p);
-            let next = step.next;
-            let held = tried.on;
-            return first(
-                timing,
-                rows,
-                messages,
-                sizes,
-                next,
-                k + 1,
-                held,
-                list,
-                at,
-                heuristics,
-                lateness,
-                bounds,
-            );
+        if let Some(held) = tried.placement {
+            // The rules allow the task here, as a good placement has it here.
+            let next = partial::step(instance, s, k, p).unwrap();
+            return first(instance, next, k + 1, held, list, at, heuristics, caches);
         }
-        p += 1;
     }
     Reached { on, listed: at }
 }

@@ -12,7 +12,7 @@ use Rattle.table.specs.declared.Table.{Table}
 use Rattle.table.specs.Sound.{Sound}
 use Rattle.judge.specs.Judge.{PlacementOf, judged_on, judgement_number}
 use Rattle.judge.specs.Good.{Good}
-use Rattle.judge.proofs.Meaning.{kept_good, good_kept, zero_kept}
+use Rattle.judge.proofs.Meaning.{kept_good, good_kept}
 use Rattle.answer.specs.Answer.{found_head, none_head}
 use Rattle.goal.specs.Order.{Earlier}
 use Rattle.goal.specs.Goal.{placements, nth, is_good, first_good, head_of}
@@ -22,7 +22,7 @@ use Rattle.goal.proofs.Numbers.{placement_number, placement_at_long, placement_a
 
 module _ {t : Table} (s : Sound t) (q : List ℕ) where
   pub is_good_lem : T (is_good t q) → Good t q
-  is_good_lem u = kept_good s q (zero_kept (judged_on t q).judgement (eqb→eq (judgement_number (judged_on t q).judgement) 0 u))
+  is_good_lem u = kept_good s q (eqb→eq (judgement_number (judged_on t q)) 0 u)
 
   pub good_is : Good t q → T (is_good t q)
   good_is g = rw (good_kept s q g) tt

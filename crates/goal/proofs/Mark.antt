@@ -15,16 +15,15 @@ use Rattle.mask.proofs.Tests.{same_test, and_both, and_left, and_right}
 use Rattle.mask.proofs.Laws.{subset_within, within_subset}
 use Rattle.table.specs.declared.Table.{Table}
 use Rattle.table.specs.Sound.{Sound}
-use Rattle.rules.specs.declared.Check.{Check}
-use Rattle.rules.specs.declared.Check.TheVariants.{Kept, Broken}
+use Rattle.std.specs.Prelude.{Ok, Err, is_ok}
 use Rattle.rules.specs.Placement.{placed}
-use Rattle.rules.specs.Rules.{Keeps, residence_broken, first_broken}
+use Rattle.rules.specs.Rules.{Keeps, residence_broken, Check, first_broken}
 use Rattle.rules.specs.Sets.{sets_of}
 use Rattle.rules.proofs.Order.{kept_keeps, keeps_kept}
 use Rattle.rules.proofs.Sets.{sets_placed}
 use Rattle.judge.specs.Judge.{PlacementOf}
 use Rattle.judge.proofs.Limits.{placeable_of}
-use Rattle.goal.specs.Goal.{nth, first_good, is_kept, keeps_rules, Resides, keeps_residence, AllOn, OnOne, holds, HoldsListed, uncovered, mark_of}
+use Rattle.goal.specs.Goal.{nth, first_good, keeps_rules, Resides, keeps_residence, AllOn, OnOne, holds, HoldsListed, uncovered, mark_of}
 use Rattle.goal.proofs.First.{number_in, Before, number_nth, before_placement, before_nth}
 
 -- ---- rules and residence
@@ -34,9 +33,9 @@ module _ (t : Table) (q : List ℕ) where
   unfolding keeps_rules
   rules_keep u = (kept_keeps t (placed q) (λ k. false) (go (first_broken t (placed q) (λ k. false)) u)).0
     where
-      go : (c : Check) → T (is_kept c) → c ≡ Kept
-      go Kept u = refl
-      go (Broken rule k) u = absurd u
+      go : (c : Check) → T (is_ok c) → c ≡ Ok tt
+      go (Ok x) u = refl
+      go (Err b) u = absurd u
 
   pub keep_rules : Keeps t (placed q) → T (keeps_rules t q)
   unfolding keeps_rules

@@ -1,12 +1,10 @@
 -- What the search answers on a table that was read (01, "The search answer"; demand 3).
-use Rattle.std.specs.Prelude.{◌≡◌, Bool, true, false, not, cond, ◌&&◌, List, ℕ, ◌^◌, ◌<◌, T, eqb, ltb, length, get_or}
+use Rattle.std.specs.Prelude.{◌≡◌, Bool, false, not, cond, ◌&&◌, List, ℕ, ◌^◌, ◌<◌, T, eqb, ltb, length, get_or, is_ok}
 use Rattle.finite.specs.Finite.{some_below, first_below}
 use Rattle.mask.specs.Mask.{has, within}
 use Rattle.table.specs.declared.Table.{Table}
 use Rattle.conflict.specs.Conflict.{Minimal}
 use Rattle.timing.specs.Timing.{tasks_in}
-use Rattle.rules.specs.declared.Check.{Check}
-use Rattle.rules.specs.declared.Check.TheVariants.{Kept, Broken}
 use Rattle.rules.specs.Placement.{placed}
 use Rattle.rules.specs.Rules.{residence_broken, first_broken}
 use Rattle.rules.specs.Sets.{sets_of}
@@ -24,7 +22,7 @@ nth t i = placement_at t.tasks.count t.processors.count i
 
 -- 01: it keeps the placement rules and has no late job: the judge answers 0
 abbrev pub is_good : Table → List ℕ → Bool
-is_good t q = eqb (judgement_number (judged_on t q).judgement) 0
+is_good t q = eqb (judgement_number (judged_on t q)) 0
 
 -- 01: the first is the one that is good where every earlier one is not; here its number, or the number of all placements where none is good.
 -- So the placements with smaller numbers are those that 01 calls earlier; with `NO`, all of them.
@@ -36,12 +34,8 @@ abbrev pub head_of : Table → List ℕ
 head_of t = cond (ltb (first_good t) (placements t)) (found_head (nth t (first_good t))) (none_head t.tasks.count)
 
 -- 01: 101 to 106 are the placement rules; here no task counts as late
-abbrev pub is_kept : Check → Bool
-is_kept Kept = true
-is_kept (Broken rule k) = false
-
 unfoldable pub keeps_rules : Table → List ℕ → Bool
-keeps_rules t q = is_kept (first_broken t (placed q) (λ k. false))
+keeps_rules t q = is_ok (first_broken t (placed q) (λ k. false))
 
 -- every task of q is in its residence, as a statement and as a test
 abbrev pub Resides : Table → List ℕ → Type 0

@@ -3,52 +3,44 @@
 #![tactic(auto)]
 
 ghost use Rattle.std.specs.Prelude.{◌≡◌, ◌/◌, ◌<◌};
-ghost use Rattle.heuristics.specs.Heuristics.{failures, numbers, random, nodes, at, with, heavier, next_state, one_more, noted};
+ghost use Rattle.heuristics.specs.Heuristics.{heavier, next_state, one_more, after_blame, after_noise, after_node, tried_noted, listing_noted};
 
 use numbers::wide;
 
-// Rows of 24 numbers: the failure weights, the numbers at the places below, a copy of these two rows; from row WEIGHTS on, weights for the capacity
-// bound.
-pub type Heuristics = [[u32; 24]; 30];
+// What guides a run.
+#[derive(Clone, Copy)]
+pub struct Guide {
+    // The tasks' failure weights.
+    pub failures: [u32; 24],
+    // The state of the random numbers.
+    pub random: u32,
+    // The credit of the bound.
+    pub credit: u32,
+    // How often the bound was skipped.
+    pub skips: u32,
+    // How many steps the search may still take.
+    pub fuel: u32,
+    // Whether the weights of the bound adapt to the region; if not, they are those of the rows.
+    pub weighted: bool,
+    // How many nodes the last decision had.
+    pub nodes: u32,
+    // Whether all late sets of the table have a place in the list, where that is known.
+    pub listing: Option<bool>,
+    // How many nodes the decision had after which that was tried last and was not found out.
+    pub tried: u32,
+}
 
-// The row of the tasks' failure weights.
-pub const FAILURES: usize = 0;
+// What guides the run, a copy of what it began with, and weights for the capacity bound: for each number of open tasks from 0 to 25, the best that were
+// found for a region with so many.
+#[derive(Clone, Copy)]
+pub struct Heuristics {
+    pub guide: Guide,
+    pub kept: Guide,
+    pub weights: [[u32; 24]; 26],
+}
 
-// The row of single numbers, which stand at the places RANDOM, CREDIT, SKIPS, FUEL, WEIGHTED, NODES, LISTING and TRIED.
-pub const NUMBERS: usize = 1;
-
-// The state of the random numbers.
-pub const RANDOM: usize = 0;
-
-// The credit of the bound.
-pub const CREDIT: usize = 1;
-
-// How often the bound was skipped.
-pub const SKIPS: usize = 2;
-
-// How many steps the search may still take.
-pub const FUEL: usize = 3;
-
-// Whether the run is weighted: 1 where the weights of the bound adapt to the region, 0 where they are those of the rows.
-pub const WEIGHTED: usize = 4;
-
-// How many nodes the last decision had.
-pub const NODES: usize = 5;
-
-// Whether all late sets of the table have a place in the list: 0 not known, 1 yes, 2 no.
-pub const LISTING: usize = 6;
-
-// How many nodes the decision had after which that was tried last and was not found out.
-pub const TRIED: usize = 7;
-
-// Where the copy of the first two rows begins.
-pub const KEPT: usize = 2;
-
-// The rows of weights: for each number of open tasks from 0 to 25, the best weights that were found for a region with so many.
-pub const WEIGHTS: usize = 4;
-
-// The last of them: the best weights that were found for the region of a whole decision.
-pub const ROOT: usize = 29;
+// The last row of weights: the best that were found for the region of a whole decision.
+pub const ROOT: usize = 25;
 
 // A failure weight after one failure more. It stays where it has grown large.
 fn heavier(weight: u32) -> u32
@@ -63,18 +55,17 @@ fn heavier(weight: u32) -> u32
 // The failure weight of task k grows: no processor could take it.
 pub fn blame(heuristics: &mut Heuristics, k: usize)
     requires { k < 24 }
-    ensures { heuristics.new ≡ with heuristics.old failures k (heavier (at heuristics.old failures k)) }
+    ensures { heuristics.new ≡ after_blame heuristics.old k }
 {
-    heuristics[FAILURES][k] = heavier(heuristics[FAILURES][k]);
+    heuristics.guide.failures[k] = heavier(heuristics.guide.failures[k]);
 }
 
 // A pseudo-random number below 128: the high bits of a linear congruential generator.
 pub fn noise(heuristics: &mut Heuristics) -> u64
-    ensures { (result ≡ next_state (at heuristics.old numbers random) / 16777216)
-        × (heuristics.new ≡ with heuristics.old numbers random (next_state (at heuristics.old numbers random))) }
+    ensures { (result ≡ next_state heuristics.old.guide.random / 16777216) × (heuristics.new ≡ after_noise heuristics.old) }
 {
-    let next = (wide(heuristics[NUMBERS][RANDOM]) * 1103515245 + 12345) % 2147483648;
-    heuristics[NUMBERS][RANDOM] = next as u32;
+    let next = (wide(heuristics.guide.random) * 1103515245 + 12345) % 2147483648;
+    heuristics.guide.random = next as u32;
     next / 16777216
 }
 
@@ -90,16 +81,23 @@ fn one_more(count: u32) -> u32
 
 // One more node of the decision.
 pub fn count_node(heuristics: &mut Heuristics)
-    ensures { heuristics.new ≡ with heuristics.old numbers nodes (one_more (at heuristics.old numbers nodes)) }
+    ensures { heuristics.new ≡ after_node heuristics.old }
 {
-    heuristics[NUMBERS][NODES] = one_more(heuristics[NUMBERS][NODES]);
+    heuristics.guide.nodes = one_more(heuristics.guide.nodes);
 }
 
-// A number that a replay does not take back: it is written in the copy too.
-pub fn note(heuristics: &mut Heuristics, place: usize, value: u32)
-    requires { place < 24 }
-    ensures { heuristics.new ≡ noted heuristics.old place value }
+// After so many nodes it was not found out whether all late sets have a place. A replay does not take that back: it is written in the copy too.
+pub fn note_tried(heuristics: &mut Heuristics, nodes: u32)
+    ensures { heuristics.new ≡ tried_noted heuristics.old nodes }
 {
-    heuristics[NUMBERS][place] = value;
-    heuristics[KEPT + NUMBERS][place] = value;
+    heuristics.guide.tried = nodes;
+    heuristics.kept.tried = nodes;
+}
+
+// It was found out whether all late sets have a place. A replay does not take that back either.
+pub fn note_listing(heuristics: &mut Heuristics, all: bool)
+    ensures { heuristics.new ≡ listing_noted heuristics.old all }
+{
+    heuristics.guide.listing = Some(all);
+    heuristics.kept.listing = Some(all);
 }

@@ -2,14 +2,17 @@
 use mathlib.Core.Path.{◌≡◌, refl, ap, fun_ext, ◌∙◌}
 use mathlib.Core.Bool.{Bool}
 use mathlib.Core.List.{List}
-use Prim.Native.Nat.{ℕ, ◌^◌, ◌≤◌, ◌<◌}
+use Prim.Native.Nat.{ℕ, ◌^◌, ◌<◌}
 use native.Mathlib.Omega.{arith}
 use native.Mathlib.Decide.{dec_lt}
-use lib.Dec.{T, leb, eqb, le→leb, lt→ltb}
+use borrow.Author.Tests.{lt-ltb}
+use lib.Dec.{T, leb, eqb, lt→ltb}
 use lib.ListN.{length, get_or}
 use lib.Pow.{pow_pos}
-use Rattle.finite.specs.Finite.{first_below}
-use Rattle.finite.proofs.Search.{FirstBelow, first_below_lem, lowest, nowhere}
+use Rattle.std.specs.Prelude.{Option, Some, None}
+use Rattle.std.specs.List.{position_or_len}
+use Rattle.std.proofs.lemmas.Bool.{leb-false}
+use Rattle.std.proofs.lemmas.List.Sums.{fails_before_first}
 use Rattle.mask.specs.Mask.{has, below, mask_of}
 use Rattle.mask.proofs.Laws.{mask_lt}
 use Rattle.table.specs.declared.Table.{Table}
@@ -24,19 +27,19 @@ use Rattle.rules.specs.Sets.{Placeable, sets_of}
 use Rattle.rules.proofs.Sets.{sets_placed}
 use Rattle.judge.specs.Judge.{PlacementOf, first_unknown, alongside, response_of}
 use Rattle.judge.specs.Arrays.{Placed}
+use Rattle.schedule.specs.declared.Timing.{Timing}
 
 -- no byte is unknown, so all name processors
-pub all_known : (m : ℕ) (q : List ℕ) → length q ≤ first_unknown m q → (k : ℕ) → k < length q → get_or q k 0 < m
+pub all_known : (m : ℕ) (q : List ℕ) → first_unknown m q ≡ None → (k : ℕ) → k < length q → get_or q k 0 < m
 unfolding first_unknown
-all_known m q l k j = go (first_below_lem (length q) test) (dec_lt (get_or q k 0) m)
+all_known m q e k l = go (dec_lt (position_or_len (leb m) q) (length q))
   where
-    test : ℕ → Bool
-    test i = leb m (get_or q i 0)
+    go : Dec (position_or_len (leb m) q < length q) → get_or q k 0 < m
+    go (yes i) = absurd (let z : ◌≡◌ {A = Option ℕ} (Some (position_or_len (leb m) q)) None = rw (lt-ltb _ _ i) at e in cc)
+    go (no i) = leb-false m (get_or q k 0) (fails_before_first (leb m) q k 0 (omega arith))
 
-    go : FirstBelow (length q) test (first_below (length q) test) → Dec (get_or q k 0 < m) → get_or q k 0 < m
-    go f (yes i) = i
-    go (lowest a u h) (no i) = absurd (omega arith)
-    go (nowhere e h) (no i) = absurd (h k j (le→leb m (get_or q k 0) (omega arith)))
+pub placement_of : {t : Table} {q : List ℕ} → length q ≡ t.tasks.count → first_unknown t.processors.count q ≡ None → PlacementOf t q
+placement_of {t} {q} long e = record { long = long; known = all_known t.processors.count q e }
 
 -- a placement's sets hold only its tasks
 sets_below : (q : List ℕ) (p : ℕ) → T (below (length q) (get_or (sets_of q) p 0))
@@ -51,7 +54,7 @@ sets_below q p = go (dec_lt p 8)
     go (no l) = rw (column_beyond 8 8 tasks p (omega arith)) (lt→ltb 0 (2 ^ length q) (pow_pos (length q)))
 
 -- response and margin by the worst response in the set of a task's processor
-pub times_placed : {n : ℕ} {timing : List (List ℕ)} {q sets : List ℕ} → Placed n timing q sets → (k : ℕ) {worst : ℕ}
+pub times_placed : {n : ℕ} {timing : Timing} {q sets : List ℕ} → Placed n timing q sets → (k : ℕ) {worst : ℕ}
     → worst ≡ worst_response (tasks_of n timing) (has (get_or sets (get_or q k 0) 0)) k
     → (up_to ((tasks_of n timing).D k) worst ≡ response_of (tasks_of n timing) q k) × (margin_by ((tasks_of n timing).D k) worst ≡ margin_of (tasks_of n timing) (alongside q k) k)
 unfolding response
@@ -64,7 +67,7 @@ module _ {t : Table} (s : Sound t) {q : List ℕ} (w : PlacementOf t q) where
   pub placeable_of : Placeable q
   placeable_of = record { few = omega (arith, w.long, s.tasks.most); known = λ k l. omega (arith, w.known k l, s.processors.most) }
 
-  pub placed_of : {timing : List (List ℕ)} {sets : List ℕ} → timing ≡ timing_of t → sets ≡ sets_of q → Placed t.tasks.count timing q sets
+  pub placed_of : {timing : Timing} {sets : List ℕ} → timing ≡ timing_of t → sets ≡ sets_of q → Placed t.tasks.count timing q sets
   placed_of same e = record {
     limits = λ p. rw same (limits_of s _ (rw (e, ← w.long) (sets_below q p)));
     placeable = placeable_of;

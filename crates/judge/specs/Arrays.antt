@@ -8,9 +8,10 @@ use Rattle.rules.specs.Sets.{Placeable, sets_of}
 use Rattle.judge.specs.declared.TaskTimes.{TaskTimes}
 use Rattle.judge.specs.declared.Times.{Times}
 use Rattle.judge.specs.Judge.{response_of, responses_of, margin_at, margins_of}
+use Rattle.schedule.specs.declared.Timing.{Timing}
 
 -- tasks within their limits, each processor's set among them, and a placement of them
-pub record Placed (n : ℕ) (timing : List (List ℕ)) (q sets : List ℕ) : Type 0 where
+pub record Placed (n : ℕ) (timing : Timing) (q sets : List ℕ) : Type 0 where
   pub limits : (p : ℕ) → InLimits n timing (get_or sets p 0)
   pub placeable : Placeable q
   pub long : length q ≡ n

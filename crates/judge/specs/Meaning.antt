@@ -1,14 +1,12 @@
 -- What the judge's answer means, in the words of 01 ("Judging a placement", "Refused input"), with the tick run of "Response and run" for 107.
-use Rattle.std.specs.Prelude.{◌≡◌, ◌≢◌, ◌↔◌, List, ℕ, ◌≤◌, ◌<◌, T, pos, length, get_or, replicate}
+use Rattle.std.specs.Prelude.{◌≡◌, ◌≢◌, ◌↔◌, Option, Some, Ok, Err, List, ℕ, ◌≤◌, ◌<◌, T, ℤ, pos, length, get_or}
 use Rattle.verdict.specs.declared.Cause.{Cause}
 use Rattle.verdict.specs.declared.Cause.TheVariants.{PlacementLength, UnknownProcessor}
-use Rattle.table.specs.declared.Outcome.TheVariants as outcomes
 use Rattle.table.specs.declared.Table.{Table}
 use Rattle.table.specs.Refusal.{cause_number}
 use Rattle.table.specs.Table.{read_of}
 use Rattle.schedule.specs.Periodic.{LateTask}
 use Rattle.schedule.specs.Response.{demand, Least}
-use Rattle.schedule.specs.declared.Margin.TheVariants.{Known}
 use Rattle.schedule.specs.Margin.{MarginIs}
 use Rattle.timing.specs.Timing.{tasks_in}
 use Rattle.rules.specs.declared.Rule.{Rule}
@@ -16,13 +14,16 @@ use Rattle.rules.specs.declared.Rule.TheVariants.{Residence, CoResidence, Exclus
 use Rattle.rules.specs.Placement.{placed}
 use Rattle.rules.specs.Rules.{rule_number, concerned, residence_broken, co_residence_broken, exclusion_broken, memory_broken, utilisation_broken, network_broken}
 use Rattle.judge.specs.declared.Judged.{Judged}
-use Rattle.judge.specs.declared.TaskMargin.{TaskMargin}
-use Rattle.judge.specs.Judge.{PlacementOf, alongside, known_zero, judgement_number, concerned_of}
+use Rattle.judge.specs.Judge.{PlacementOf, alongside, known_zero, Judgement, refused_judgement, judgement_number, concerned_of}
 use Rattle.judge.specs.Good.{Good}
 
 -- the file can be read, and P is true of its table
 abbrev pub Reads : List ℕ → (Table → Type 0) → Type 0
-Reads file P = ((read_of file).outcome ≡ outcomes.Readable) × P (read_of file).table
+Reads file P = (t : Table) × (read_of file ≡ Ok t) × P t
+
+-- the placement is judged, and P is true of what is answered
+abbrev pub Judges : Judgement → (Judged → Type 0) → Type 0
+Judges r P = (j : Judged) × (r ≡ Ok j) × P j
 
 -- 01: 14, a processor not in the file; the place is the index of the first such byte
 pub record FirstUnknown (t : Table) (q : List ℕ) (k : ℕ) : Type 0 where
@@ -33,7 +34,7 @@ pub record FirstUnknown (t : Table) (q : List ℕ) (k : ℕ) : Type 0 where
 
 -- 01: the file's own refusal; after the file is read 13, place 0, before 14
 pub data JudgeRefuses (file q : List ℕ) : Cause → ℕ → Type 0 where
-  unreadable : {cause : Cause} {place : ℕ} → (read_of file).outcome ≡ outcomes.Refused cause place → JudgeRefuses file q cause place
+  unreadable : {cause : Cause} {place : ℕ} → read_of file ≡ Err (record { cause = cause; place = place }) → JudgeRefuses file q cause place
   wrong_length : Reads file (λ t. length q ≢ t.tasks.count) → JudgeRefuses file q PlacementLength 0
   unknown_processor : {k : ℕ} → Reads file (λ t. FirstUnknown t q k) → JudgeRefuses file q UnknownProcessor k
 
@@ -62,28 +63,26 @@ pub record Responses (t : Table) (q responses : List ℕ) : Type 0 where
   pub beyond : (k : ℕ) → t.tasks.count ≤ k → get_or responses k 0 ≡ 0
 
 -- 02: n margins, one for each task: deadline minus the least solution, while that is at most the period; else beyond. Places past the n tasks hold a known 0.
-pub record Margins (t : Table) (q : List ℕ) (margins : List TaskMargin) : Type 0 where
+pub record Margins (t : Table) (q : List ℕ) (margins : List (Option ℤ)) : Type 0 where
   pub long : length margins ≡ 24
-  pub right : (k : ℕ) → k < t.tasks.count → MarginIs (demand (tasks_in t) (alongside q k) k) ((tasks_in t).D k) ((tasks_in t).T k) (get_or margins k known_zero).margin
+  pub right : (k : ℕ) → k < t.tasks.count → MarginIs (demand (tasks_in t) (alongside q k) k) ((tasks_in t).D k) ((tasks_in t).T k) (get_or margins k known_zero)
   pub past : (k : ℕ) → t.tasks.count ≤ k → get_or margins k known_zero ≡ known_zero
 
 -- what the judge answers on a file and a placement
-pub record JudgeMeans (file q : List ℕ) (r : Judged) : Type 0 where
+pub record JudgeMeans (file q : List ℕ) (r : Judgement) : Type 0 where
   -- the answer is 0 exactly if the file is read and the placement keeps the rules and has no late job
-  pub kept : (judgement_number r.judgement ≡ 0) ↔ Reads file (λ t. Good t q)
+  pub kept : (judgement_number r ≡ 0) ↔ Reads file (λ t. Good t q)
   -- it is a rule's number, and k the number concerned, exactly if that rule is the first broken one, and k the lowest number at which it is broken
-  pub broken : (rule : Rule) (k : ℕ)
-      → ((judgement_number r.judgement ≡ rule_number rule) × (concerned_of r.judgement ≡ k)) ↔ Reads file (λ t. FirstBroken t q rule k)
+  pub broken : (rule : Rule) (k : ℕ) → ((judgement_number r ≡ rule_number rule) × (concerned_of r ≡ k)) ↔ Reads file (λ t. FirstBroken t q rule k)
   -- it is a cause's number, with its place, exactly if that is the first cause to refuse the call
-  pub refused : (cause : Cause) (place : ℕ)
-      → ((judgement_number r.judgement ≡ cause_number cause) × (concerned_of r.judgement ≡ place)) ↔ JudgeRefuses file q cause place
+  pub refused : (cause : Cause) (place : ℕ) → ((judgement_number r ≡ cause_number cause) × (concerned_of r ≡ place)) ↔ JudgeRefuses file q cause place
   -- beside answer 0 the number concerned is 0, and beside 106
-  pub kept_zero : judgement_number r.judgement ≡ 0 → concerned_of r.judgement ≡ 0
-  pub network_zero : judgement_number r.judgement ≡ 106 → concerned_of r.judgement ≡ 0
+  pub kept_zero : judgement_number r ≡ 0 → concerned_of r ≡ 0
+  pub network_zero : judgement_number r ≡ 106 → concerned_of r ≡ 0
   -- beside the answer, for every placement that isn't refused, whatever rules it breaks, stand the responses and the margins
-  pub responses : Reads file (λ t. PlacementOf t q) → Responses (read_of file).table q r.responses
-  pub margins : Reads file (λ t. PlacementOf t q) → Margins (read_of file).table q r.margins
+  pub responses : (read : Reads file (λ t. PlacementOf t q)) → Judges r (λ j. Responses read.0 q j.responses)
+  pub margins : (read : Reads file (λ t. PlacementOf t q)) → Judges r (λ j. Margins read.0 q j.margins)
   -- beside answer 0 every margin is known and at least 0
-  pub kept_margins : judgement_number r.judgement ≡ 0 → (k : ℕ) → (x : ℕ) × ((get_or r.margins k known_zero).margin ≡ Known (pos x))
-  -- beside a refusal all are as if there were no task
-  pub nothing : {cause : Cause} {place : ℕ} → JudgeRefuses file q cause place → (r.responses ≡ replicate 24 0) × (r.margins ≡ replicate 24 known_zero)
+  pub kept_margins : judgement_number r ≡ 0 → Judges r (λ j. (k : ℕ) → (x : ℕ) × (get_or j.margins k known_zero ≡ Some (pos x)))
+  -- a refusal has neither responses nor margins
+  pub nothing : {cause : Cause} {place : ℕ} → JudgeRefuses file q cause place → r ≡ refused_judgement cause place

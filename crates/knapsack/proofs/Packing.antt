@@ -24,6 +24,7 @@ use Rattle.knapsack.specs.declared.Pack.{Pack}
 use Rattle.knapsack.specs.declared.Packed.{Packed}
 use Rattle.knapsack.specs.Knapsack.{weight_of, has_room, joined, Among, Takes, Packs, Begun, PackedAs, TakenAs}
 use Rattle.knapsack.proofs.Taking.{takes_map, takes_room, takes_next, with_inside}
+use Rattle.schedule.specs.declared.Timing.{Timing}
 
 -- ---- the candidate k
 
@@ -43,7 +44,7 @@ with_task memory loads weights pack k = record {
   fuel = pack.fuel;
 }
 
-module _ {n : ℕ} {timing : List (List ℕ)} {k : ℕ} {pack : Pack} {old : List ℕ} {before : ℕ} (p : Packs n timing pack old before) (l : k < n) where
+module _ {n : ℕ} {timing : Timing} {k : ℕ} {pack : Pack} {old : List ℕ} {before : ℕ} (p : Packs n timing pack old before) (l : k < n) where
   -- there is no room for it
   pub taken_refused : {mode : Mode} {set fuel : ℕ} {memory exclusions loads weights : List ℕ} → has_room memory exclusions loads pack.on pack.space pack.spare k ≡ false
       → TakenAs n (tasks_of n timing) mode memory exclusions loads weights pack k old before old (record { most = pack.best; set = set; count = before; fuel = fuel })
@@ -102,7 +103,7 @@ Same pack left = (left.on ≡ pack.on) × (left.space ≡ pack.space) × (left.s
 
 -- what a call begins with
 module _ {pack left : Pack} (b : Begun pack left) where
-  pub begun_packs : {n : ℕ} {timing : List (List ℕ)} {list : List ℕ} {count : ℕ} → Packs n timing pack list count → Packs n timing left list count
+  pub begun_packs : {n : ℕ} {timing : Timing} {list : List ℕ} {count : ℕ} → Packs n timing pack list count → Packs n timing left list count
   begun_packs p = record { limits = rw b.on p.limits; tasks = rw b.candidates p.tasks; nogoods = p.nogoods }
 
   pub begun_packed : {n : ℕ} {s : Tasks} {mode : Mode} {memory exclusions loads weights old : List ℕ} {before : ℕ} {new : List ℕ} (r : Packed)
@@ -123,7 +124,7 @@ pub record Packing (n : ℕ) (s : Tasks) (mode : Mode) (memory exclusions loads 
   pub bounds : (x : ℕ) → Takes n memory exclusions loads (Bad s mode.listing new listed) pack.on pack.space pack.spare x → Subset x pack.candidates
       → pack.weight + weight_of n weights x ≤ pack.stop → Subset x left ⊎ (pack.weight + weight_of n weights x ≤ top)
 
-pub packing_start : {n : ℕ} {timing : List (List ℕ)} {mode : Mode} {memory exclusions loads weights : List ℕ} {pack left : Pack} {old : List ℕ} {before : ℕ}
+pub packing_start : {n : ℕ} {timing : Timing} {mode : Mode} {memory exclusions loads weights : List ℕ} {pack left : Pack} {old : List ℕ} {before : ℕ}
     → Begun pack left → Packs n timing pack old before → pack.reach ≡ pack.weight + weight_of n weights pack.candidates
     → Packing n (tasks_of n timing) mode memory exclusions loads weights left old before left.candidates left.reach left.best old before
 packing_start b p e = record {
@@ -134,7 +135,7 @@ packing_start b p e = record {
   bounds = λ x w f h. inl f;
 }
 
-module _ {n : ℕ} {timing : List (List ℕ)} {mode : Mode} {memory exclusions loads weights : List ℕ} {pack : Pack} {old : List ℕ} {before : ℕ}
+module _ {n : ℕ} {timing : Timing} {mode : Mode} {memory exclusions loads weights : List ℕ} {pack : Pack} {old : List ℕ} {before : ℕ}
     (p : Packs n timing pack old before) where
   module _ {left all top : ℕ} {list : List ℕ} {listed : ℕ}
       (w : Packing n (tasks_of n timing) mode memory exclusions loads weights pack old before left all top list listed) where

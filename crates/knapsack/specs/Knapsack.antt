@@ -8,6 +8,7 @@ use Rattle.nogoods.specs.declared.Mode.{Mode}
 use Rattle.nogoods.specs.Nogoods.{Nogoods, Extended, Bad}
 use Rattle.knapsack.specs.declared.Pack.{Pack}
 use Rattle.knapsack.specs.declared.Packed.{Packed}
+use Rattle.schedule.specs.declared.Timing.{Timing}
 
 -- the sum of the row's numbers of the tasks in the set
 abbrev pub weight_of : ℕ → List ℕ → ℕ → ℕ
@@ -30,7 +31,7 @@ pub record Takes (n : ℕ) (memory exclusions loads : List ℕ) (B : (ℕ → Bo
   pub clear : B (joined on x) → ⊥
 
 -- what the calculation begins with: tasks within the limits, on the processor and candidates for it, and the list of conflicts
-pub record Packs (n : ℕ) (timing : List (List ℕ)) (pack : Pack) (list : List ℕ) (count : ℕ) : Type 0 where
+pub record Packs (n : ℕ) (timing : Timing) (pack : Pack) (list : List ℕ) (count : ℕ) : Type 0 where
   pub limits : InLimits n timing pack.on
   pub tasks : T (below n pack.candidates)
   pub nogoods : Nogoods (tasks_of n timing) list count

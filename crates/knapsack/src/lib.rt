@@ -3,14 +3,13 @@
 
 ghost use Rattle.std.specs.Prelude.{◌≡◌, ◌+◌, ◌<◌, get_or};
 ghost use Rattle.schedule.specs.Arrays.{tasks_of};
-ghost use Rattle.rows.specs.Rows.{memory_row, load_row, exclusion_row};
 ghost use Rattle.knapsack.specs.Knapsack.{weight_of, has_room, Packs, Begun, PackedAs, TakenAs};
 ghost use Rattle.nogoods.specs.Nogoods.{KnownSets};
 
 use late_cache::LateCache;
 use nogoods::Mode;
 use numbers::wide;
-use rows::{EXCLUSIONS, LOAD, MEMORY, Rows};
+use rows::{Measure, Rows};
 use schedule::Timing;
 
 // A processor and what it may still be given: the tasks on it, and the candidates, which are tried in a given order from `at` on; what is left of
@@ -31,6 +30,14 @@ pub struct Pack {
     pub fuel: u32,
 }
 
+// The weights by which sets of tasks are compared, and the order in which tasks are tried.
+#[derive(Clone, Copy)]
+pub struct Weighting {
+    pub weights: [u32; 24],
+    pub order: [u32; 24],
+    pub measure: Measure,
+}
+
 // No less than the most weight that a processor can take; the tasks on it and those taken in the heaviest set that was found, of which nothing is
 // claimed, as it only guides the search; how many conflicts are listed then, and the fuel that is left.
 #[derive(Clone, Copy)]
@@ -44,15 +51,15 @@ pub struct Packed {
 // Whether task k fits what is left of memory (space) and load (spare), and none of the tasks there is excluded from it.
 fn room(rows: &Rows, on: u32, space: u64, spare: u64, k: usize) -> bool
     requires { k < 24 }
-    ensures { result ≡ has_room (memory_row rows.now) (exclusion_row rows.now) (load_row rows.now) on space spare k }
+    ensures { result ≡ has_room rows.now.memory rows.now.exclusions rows.now.load on space spare k }
 {
-    if space < wide(rows[MEMORY][k]) {
+    if space < wide(rows.memory[k]) {
         return false;
     }
-    if spare < wide(rows[LOAD][k]) {
+    if spare < wide(rows.load[k]) {
         return false;
     }
-    rows[EXCLUSIONS][k] & on == 0
+    rows.exclusions[k] & on == 0
 }
 
 // The candidate k taken, beside those of `pack`: the most weight with it, where it can stand there; else the best so far.
@@ -60,8 +67,7 @@ fn room(rows: &Rows, on: u32, space: u64, spare: u64, k: usize) -> bool
 fn take<'a>(
     timing: &'a Timing,
     rows: &'a Rows,
-    weights: &'a [u32; 24],
-    order: &'a [u32; 24],
+    weighting: &'a Weighting,
     n: usize,
     pack: Pack,
     k: usize,
@@ -71,9 +77,9 @@ fn take<'a>(
     lateness: &mut LateCache,
 ) -> Packed
     requires { Packs n timing.now pack list.old count
-        × (k < n) × (pack.reach ≡ pack.weight + get_or weights.now k 0 + weight_of n weights.now pack.candidates) × KnownSets (tasks_of n timing.now) list.old count lateness.old }
-    ensures { TakenAs n (tasks_of n timing.now) mode (memory_row rows.now) (exclusion_row rows.now)
-        (load_row rows.now) weights.now pack k list.old count list.new result × KnownSets (tasks_of n timing.now) list.new result.count lateness.new }
+        × (k < n) × (pack.reach ≡ pack.weight + get_or weighting.now.weights k 0 + weight_of n weighting.now.weights pack.candidates) × KnownSets (tasks_of n timing.now) list.old count lateness.old }
+    ensures { TakenAs n (tasks_of n timing.now) mode rows.now.memory rows.now.exclusions
+        rows.now.load weighting.now.weights pack k list.old count list.new result × KnownSets (tasks_of n timing.now) list.new result.count lateness.new }
 {
     if !room(rows, pack.on, pack.space, pack.spare, k) {
         return Packed {
@@ -95,14 +101,13 @@ fn take<'a>(
     }
     let mut with_k = pack;
     with_k.on = set;
-    with_k.space = pack.space - wide(rows[MEMORY][k]);
-    with_k.spare = pack.spare - wide(rows[LOAD][k]);
-    with_k.weight = pack.weight + wide(weights[k]);
+    with_k.space = pack.space - wide(rows.memory[k]);
+    with_k.spare = pack.spare - wide(rows.load[k]);
+    with_k.weight = pack.weight + wide(weighting.weights[k]);
     most(
         timing,
         rows,
-        weights,
-        order,
+        weighting,
         n,
         with_k,
         mode,
@@ -135,8 +140,7 @@ fn begin(pack: Pack) -> Pack
 pub fn most<'a>(
     timing: &'a Timing,
     rows: &'a Rows,
-    weights: &'a [u32; 24],
-    order: &'a [u32; 24],
+    weighting: &'a Weighting,
     n: usize,
     pack: Pack,
     mode: Mode,
@@ -145,27 +149,27 @@ pub fn most<'a>(
     lateness: &mut LateCache,
 ) -> Packed
     requires { Packs n timing.now pack list.old count
-        × (pack.reach ≡ pack.weight + weight_of n weights.now pack.candidates) × KnownSets (tasks_of n timing.now) list.old count lateness.old }
-    ensures { PackedAs n (tasks_of n timing.now) mode (memory_row rows.now) (exclusion_row rows.now)
-        (load_row rows.now) weights.now pack list.old count list.new result × KnownSets (tasks_of n timing.now) list.new result.count lateness.new }
+        × (pack.reach ≡ pack.weight + weight_of n weighting.now.weights pack.candidates) × KnownSets (tasks_of n timing.now) list.old count lateness.old }
+    ensures { PackedAs n (tasks_of n timing.now) mode rows.now.memory rows.now.exclusions
+        rows.now.load weighting.now.weights pack list.old count list.new result × KnownSets (tasks_of n timing.now) list.new result.count lateness.new }
 {
     let mut left = begin(pack);
     let mut listed = count;
     while left.at < 24 && left.best < left.stop && left.best < left.reach {
         let at = left.at;
         // The remainder costs nothing, and below 32 is all that `has` asks: a candidate is below n anyway.
-        let k = (order[at] % 32) as usize;
+        let k = (weighting.order[at] % 32) as usize;
         left.at = at + 1;
         if mask::has(left.candidates, k) {
             left.candidates = mask::remove(left.candidates, k);
             let taken = take(
-                timing, rows, weights, order, n, left, k, mode, list, listed, lateness,
+                timing, rows, weighting, n, left, k, mode, list, listed, lateness,
             );
             left.best = taken.most;
             left.best_set = taken.set;
             left.fuel = taken.fuel;
             listed = taken.count;
-            left.reach -= wide(weights[k]);
+            left.reach -= wide(weighting.weights[k]);
         }
     }
     if left.best < left.stop && left.best < left.reach {

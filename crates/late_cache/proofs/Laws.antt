@@ -19,6 +19,7 @@ use Rattle.mask.proofs.Laws.{has_zero}
 use Rattle.schedule.specs.Periodic.{Tasks, LateSet}
 use Rattle.schedule.specs.Arrays.{InLimits, Says}
 use Rattle.late_cache.specs.LateCache.{LateCache, place_of, with_verdict}
+use Rattle.schedule.specs.declared.Timing.{Timing}
 
 -- a late set has a task
 late_member : {s : Tasks} {on : ℕ → Bool} → LateSet s on → (k : ℕ) × T (on k)
@@ -29,7 +30,7 @@ late_member {s} {on} l = (l.task, member (on l.task) (eqb (l.tick % s.T l.task) 
     member false d work h = omega arith
 
 -- a set of tasks leaves room for its verdict in a word
-pub small_set : {n x : ℕ} {rows : List (List ℕ)} → InLimits n rows x → x < 2 ^ 24
+pub small_set : {n x : ℕ} {rows : Timing} → InLimits n rows x → x < 2 ^ 24
 small_set {n} {x} h = lt_of_lt_of_le (ltb→lt x (2 ^ n) h.inside) (pow_mono h.few)
 
 pub bool_small : (b : Bool) → bool_byte b ≤ 1

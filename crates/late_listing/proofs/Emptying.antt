@@ -1,5 +1,4 @@
 -- What is left of a processor is small, so that what its tasks took can be added. Assumes nothing.
-use mathlib.Core.List.{List}
 use Prim.Native.Nat.{ℕ, ◌*◌, ◌≤◌, ◌<◌}
 use native.Mathlib.Nat.{mul-le-mul}
 use native.Mathlib.Omega.{arith}
@@ -12,8 +11,10 @@ use Rattle.partial.specs.declared.State.{State}
 use Rattle.partial.specs.Partial.{Lent, Fits}
 use Rattle.region.proofs.Lending.{set_below}
 use Rattle.candidates.proofs.Choosing.{below_more}
+use Rattle.rows.specs.declared.Rows.{Rows}
+use Rattle.rows.specs.declared.Messages.{Messages}
 
-module _ {t : Table} {sizes : Sizes} {rows links : List (List ℕ)} {s : State} (l : Lent t sizes rows links) (f : Fits t s) (p : ℕ) where
+module _ {t : Table} {sizes : Sizes} {rows : Rows} {links : Messages} {s : State} (l : Lent t sizes rows links) (f : Fits t s) (p : ℕ) where
   pub few_on : T (below 24 (get_or s.on p 0))
   few_on = below_more t.tasks.count 24 (get_or s.on p 0) l.sound.tasks.most (set_below f.partial p)
 

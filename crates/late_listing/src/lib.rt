@@ -2,41 +2,38 @@
 // place in the list. When it is used is a heuristic: no answer rests on it.
 #![tactic(auto)]
 
-ghost use Rattle.std.specs.Prelude.{◌≡◌, List, ℕ, ◌+◌, ◌*◌, ◌<◌, length};
+ghost use Rattle.std.specs.Prelude.{◌≡◌, ◌+◌, ◌*◌, ◌<◌, length};
 ghost use Rattle.table.specs.declared.Table.{Table};
 ghost use Rattle.timing.specs.Timing.{tasks_in};
 ghost use Rattle.partial.specs.Partial.{Lent, Fits};
 ghost use Rattle.late_cache.specs.LateCache.{LateCache};
 ghost use Rattle.region.specs.Begins.{Opens};
-ghost use Rattle.region.specs.Given.{Given, Gives};
+ghost use Rattle.rows.specs.declared.Messages.{Messages};
+ghost use Rattle.region.specs.Given.{Given, Gives, with_links};
 ghost use Rattle.late_sets.specs.LateSets.{CoversAs};
 ghost use Rattle.late_sets.specs.declared.Covering.{Covering};
 ghost use Rattle.late_listing.specs.LateListing.{emptied_of, steps_for, worth_a_try, finding_of, examined, Examines};
 
-use heuristics::{Heuristics, LISTING, NODES, NUMBERS, TRIED};
+use heuristics::Heuristics;
 use late_cache::LateCache;
 use late_sets::Covering;
-use partial::{Sizes, State};
-use rows::{LOAD, MEMORY, Rows};
-use schedule::Timing;
+use partial::{Instance, State};
 
 // The state with no task placed: each processor has back what the tasks on it took. The network, and what may still stand on the processors, are not
 // asked for here, and stay as they are.
-fn emptied(rows: &Rows, sizes: Sizes, s: State) -> State
-    requires { (t : Table) × (links : List (List ℕ)) × Lent t sizes rows.now links × Fits t s }
-    ensures { result ≡ emptied_of rows.now sizes s }
+fn emptied(instance: &Instance, s: State) -> State
+    requires { (t : Table) × (links : Messages) × Lent t instance.now.sizes instance.now.rows links × Fits t s }
+    ensures { result ≡ emptied_of instance.now.rows instance.now.sizes s }
 {
     let mut memory = [0u64; 8];
     let mut load = [0u64; 8];
-    let mut p: usize = 0;
-    while p < sizes.processors {
-        memory[p] = s.memory[p] + subgradient::total(&rows[MEMORY], s.on[p]);
-        load[p] = s.load[p] + subgradient::total(&rows[LOAD], s.on[p]);
-        p += 1;
+    for p in 0..instance.sizes.processors {
+        memory[p] = s.memory[p] + subgradient::total(&instance.rows.memory, s.on[p]);
+        load[p] = s.load[p] + subgradient::total(&instance.rows.load, s.on[p]);
     }
     State {
         on: [0; 8],
-        left: mask::all_below(sizes.tasks),
+        left: mask::all_below(instance.sizes.tasks),
         may: s.may,
         memory,
         load,
@@ -58,83 +55,69 @@ fn steps_for(nodes: u32) -> u32
 fn worth_a_try(heuristics: &Heuristics) -> bool
     ensures { result ≡ worth_a_try heuristics.now }
 {
-    if heuristics[NUMBERS][LISTING] != 0 {
-        return false;
-    }
-    heuristics[NUMBERS][TRIED] < heuristics[NUMBERS][NODES] / 2
+    heuristics.guide.listing.is_none() && heuristics.guide.tried < heuristics.guide.nodes / 2
 }
 
-// What a listing of all late sets tells: 1, they have a place; 2, they do not; 0, the steps did not suffice to tell.
-fn finding_of(covering: Covering, places: usize) -> u32
+// What a listing of all late sets tells: whether they have a place; nothing, where the steps did not suffice to tell.
+fn finding_of(covering: Covering, places: usize) -> Option<bool>
     ensures { result ≡ finding_of covering places }
 {
     if covering.complete {
-        if covering.count <= places {
-            return 1;
-        }
-        return 2;
+        return Some(covering.count <= places);
     }
     if covering.steps == 0 {
-        return 0;
+        return None;
     }
-    2
+    Some(false)
 }
 
 // Finds out whether all late sets of the table have a place in a list of so many: they are listed in a list of their own, from the empty placement on.
-fn examine<'a>(
-    timing: &'a Timing,
-    rows: &'a Rows,
-    sizes: Sizes,
+fn examine(
+    instance: &Instance,
     s: State,
     places: usize,
     heuristics: &mut Heuristics,
     lateness: &mut LateCache,
 )
-    requires { (links : List (List ℕ)) × Given sizes timing.now rows.now links (λ t. Fits t s) (λ t. LateCache (tasks_in t) lateness.old) }
+    requires { (links : Messages) × Given (with_links instance.now links) (λ t. Fits t s) (λ t. LateCache (tasks_in t) lateness.old) }
     ensures { ((c : Covering) × (heuristics.new ≡ examined heuristics.old places c))
-        × ((links : List (List ℕ)) → Gives sizes timing.now rows.now links
+        × ((links : Messages) → Gives (with_links instance.now links)
         (λ t. Fits t s) (λ t. LateCache (tasks_in t) lateness.old) (λ t. LateCache (tasks_in t) lateness.new)) }
 {
-    let nodes = heuristics[NUMBERS][NODES];
-    let empty = emptied(rows, sizes, s);
+    let nodes = heuristics.guide.nodes;
+    let empty = emptied(instance, s);
     let mut scratch = [0u8; 16383];
     let covering = late_sets::cover_late_sets(
-        timing,
-        rows,
-        sizes,
+        instance,
         empty,
         steps_for(nodes),
         &mut scratch,
         0,
         lateness,
     );
-    let finding = finding_of(covering, places);
-    if finding == 0 {
-        heuristics::note(heuristics, TRIED, nodes);
-    } else {
-        heuristics::note(heuristics, LISTING, finding);
+    match finding_of(covering, places) {
+        None => heuristics::note_tried(heuristics, nodes),
+        Some(all) => heuristics::note_listing(heuristics, all),
     }
 }
 
 // Lists conflicts until every late set that could stand in the region holds one. It is not complete, and has listed nothing, where the last decision was
 // short or not all late sets of the table have a place.
-pub fn list_late_sets<'a>(
-    timing: &'a Timing,
-    rows: &'a Rows,
-    sizes: Sizes,
+pub fn list_late_sets(
+    instance: &Instance,
     s: State,
     list: &mut [u8],
     count: usize,
     heuristics: &mut Heuristics,
     lateness: &mut LateCache,
 ) -> Covering
-    requires { (links : List (List ℕ)) × Given sizes timing.now rows.now links (λ t. Opens t s list.old count) (λ t. LateCache (tasks_in t) lateness.old) }
+    requires { (links : Messages) × Given (with_links instance.now links) (λ t. Opens t s list.old count) (λ t. LateCache (tasks_in t) lateness.old) }
     ensures { Examines heuristics.old (length list.old) heuristics.new
-        × ((links : List (List ℕ)) → Gives sizes timing.now rows.now links
+        × ((links : Messages) → Gives (with_links instance.now links)
         (λ t. Opens t s list.old count) (λ t. LateCache (tasks_in t) lateness.old)
         (λ t. CoversAs t s (λ x. Unit {0}) list.old count list.new result × LateCache (tasks_in t) lateness.new)) }
 {
-    let nodes = heuristics[NUMBERS][NODES];
+    let nodes = heuristics.guide.nodes;
     let unlisted = Covering {
         complete: false,
         steps: 0,
@@ -144,27 +127,10 @@ pub fn list_late_sets<'a>(
         return unlisted;
     }
     if worth_a_try(heuristics) {
-        examine(
-            timing,
-            rows,
-            sizes,
-            s,
-            (list.len() - 3) / 6,
-            heuristics,
-            lateness,
-        );
+        examine(instance, s, (list.len() - 3) / 6, heuristics, lateness);
     }
-    if heuristics[NUMBERS][LISTING] != 1 {
+    if heuristics.guide.listing != Some(true) {
         return unlisted;
     }
-    late_sets::cover_late_sets(
-        timing,
-        rows,
-        sizes,
-        s,
-        steps_for(nodes),
-        list,
-        count,
-        lateness,
-    )
+    late_sets::cover_late_sets(instance, s, steps_for(nodes), list, count, lateness)
 }

@@ -21,7 +21,7 @@ use Rattle.rules.specs.Rules.{memory_on, memory_broken, load_on, utilisation_bro
 use Rattle.rules.specs.Sets.{standing, meets}
 use Rattle.rules.proofs.Monotone.{keeps_part}
 use Rattle.rules.proofs.Placed.{placed_is}
-use Rattle.rows.specs.Rows.{loads_of, exclusions_of, residence_row, exclusion_row}
+use Rattle.rows.specs.Rows.{loads_of, exclusions_of}
 use Rattle.rows.proofs.Laws.{loads_get, neighbours_get, beside_below}
 use Rattle.partial.specs.declared.Sizes.{Sizes}
 use Rattle.partial.specs.declared.State.{State}
@@ -34,6 +34,8 @@ use Rattle.candidates.proofs.Fairness.{stands_or_open, not_both_there}
 use Rattle.subsets.specs.declared.Subset.{Subset}
 use Rattle.subsets.specs.Subsets.{can_stand, takes, processors_for, joined_by, with_next}
 use Rattle.late_sets.specs.LateSets.{open_sum, Kept, Possible}
+use Rattle.rows.specs.declared.Rows.{Rows}
+use Rattle.rows.specs.declared.Messages.{Messages}
 
 -- a choice between two tests
 cond_in : (b x y : Bool) → (T b → T x) → ((T b → ⊥) → T y) → T (cond b x y)
@@ -67,7 +69,7 @@ module _ (t : Table) (s : State) (row : List ℕ) where
       (only (has s.left k) (get_or row k 0)) l (λ j i d. rw (has_insert set k j, ne_eqb j k d) refl)
       (rw (has_insert set k k, eq-eqb k k refl, same_test (has set k) false new (λ u. absurd u)) (omega arith)))
 
-pub one_more_lem : (rows : List (List ℕ)) (m : ℕ) (s : State) (x : Subset) → (with_next rows m s x).next ≡ x.next + 1
+pub one_more_lem : (rows : Rows) (m : ℕ) (s : State) (x : Subset) → (with_next rows m s x).next ≡ x.next + 1
 unfolding with_next
 one_more_lem rows m s x = refl
 
@@ -75,7 +77,7 @@ one_more_lem rows m s x = refl
 spare_of : (left stands more all y : ℕ) → left + stands ≡ y / 1000 → 1000 * all ≤ y → stands + more ≤ all → more ≤ left
 spare_of left stands more all y a b c = omega arith
 
-module _ {t : Table} {sizes : Sizes} {rows links : List (List ℕ)} {s : State} (l : Lent t sizes rows links) (f : Fits t s) where
+module _ {t : Table} {sizes : Sizes} {rows : Rows} {links : Messages} {s : State} (l : Lent t sizes rows links) (f : Fits t s) where
   -- ---- on a processor where a placement has the whole set
 
   module _ {q : List ℕ} (w : Kept t s q) {p : ℕ} (low : p < t.processors.count) where
@@ -86,10 +88,10 @@ module _ {t : Table} {sizes : Sizes} {rows links : List (List ℕ)} {s : State} 
     task_there k u = omega (arith, (placed_is q k p u).0, w.whole.long)
 
     can_stand_there : (k : ℕ) → T (placed q k p) → T (can_stand rows s k p)
-    can_stand_there k u = cond_in (has s.left k) (has (get_or (residence_row rows) k 0) p) (has (get_or s.on p 0) k) home
+    can_stand_there k u = cond_in (has s.left k) (has (get_or rows.residence k 0) p) (has (get_or s.on p 0) k) home
         (λ g. ⊎_elim (λ v. v) (λ v. absurd (g v)) (stands_or_open fair f k p u))
       where
-        home : T (has s.left k) → T (has (get_or (residence_row rows) k 0) p)
+        home : T (has s.left k) → T (has (get_or rows.residence k 0) p)
         home v = rw l.same_residence (residence_needed t l.sound (standing s.on) f.keeps k p (task_there k u) low
             (keeps_part t (and_task (standing s.on) k p) (placed q) (and_within (standing s.on) k p (placed q) w.inside u) w.keeps))
 
@@ -118,7 +120,7 @@ module _ {t : Table} {sizes : Sizes} {rows links : List (List ℕ)} {s : State} 
           rw e (spare_of (get_or s.load p 0) (load_on t (standing s.on) p) (sum_to t.tasks.count (λ k. only (has set k && has s.left k) (g k))) (load_on t (placed q) p) y (f.load p low)
           (kept_le y (1000 * load_on t (placed q) p) (w.keeps.utilisation p low)) (sums g))
 
-      none_excluded : (k : ℕ) → k < t.tasks.count → T (placed q k p) → T (meets (get_or (exclusion_row rows) k 0) set) → ⊥
+      none_excluded : (k : ℕ) → k < t.tasks.count → T (placed q k p) → T (meets (get_or rows.exclusions k 0) set) → ⊥
       none_excluded k i u m =
           let e = neighbours_get t l.sound t.ex k i in
           let r = meets_elim t.tasks.count (get_or (exclusions_of t) k 0) set (rw e (beside_below t.ex t.tasks.count k)) (rw l.same_exclusions at m) in
@@ -129,15 +131,15 @@ module _ {t : Table} {sizes : Sizes} {rows links : List (List ℕ)} {s : State} 
   module _ (m : ℕ) (x : Subset) (k p : ℕ) where
     processors_out : T (has (processors_for rows m s x k) p) → (p < m) × T (takes rows s x k p)
     unfolding processors_for
-    processors_out u = go (meets (get_or (exclusion_row rows) k 0) x.set) u
+    processors_out u = go (meets (get_or rows.exclusions k 0) x.set) u
       where
         go : (b : Bool) → T (has (cond b 0 (mask_of m (takes rows s x k))) p) → (p < m) × T (takes rows s x k p)
         go true v = absurd (rw (has_zero p) at v)
         go false v = let a = rw (has_mask m (takes rows s x k) p) at v in (ltb→lt p m (and_left (ltb p m) (takes rows s x k p) a), and_right (ltb p m) (takes rows s x k p) a)
 
-    processors_in : (T (meets (get_or (exclusion_row rows) k 0) x.set) → ⊥) → p < m → T (takes rows s x k p) → T (has (processors_for rows m s x k) p)
+    processors_in : (T (meets (get_or rows.exclusions k 0) x.set) → ⊥) → p < m → T (takes rows s x k p) → T (has (processors_for rows m s x k) p)
     unfolding processors_for
-    processors_in g i u = go (meets (get_or (exclusion_row rows) k 0) x.set) g
+    processors_in g i u = go (meets (get_or rows.exclusions k 0) x.set) g
       where
         go : (b : Bool) → (T b → ⊥) → T (has (cond b 0 (mask_of m (takes rows s x k))) p)
         go true h = absurd (h tt)

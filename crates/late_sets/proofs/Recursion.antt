@@ -20,7 +20,7 @@ use Rattle.timing.proofs.Limits.{valid_tasks, constrained_tasks}
 use Rattle.rules.specs.Placement.{placed}
 use Rattle.rules.specs.Sets.{standing}
 use Rattle.rules.proofs.Placed.{placed_is}
-use Rattle.rows.specs.Rows.{loads_of, residence_row}
+use Rattle.rows.specs.Rows.{loads_of}
 use Rattle.nogoods.specs.declared.Tested.{Tested}
 use Rattle.nogoods.specs.Nogoods.{Nogoods, Covered, Noted, lists}
 use Rattle.nogoods.proofs.Growth.{extended_refl, extended_trans, extended_map, covered_grows, covered_more}
@@ -35,6 +35,8 @@ use Rattle.late_sets.specs.declared.Covering.{Covering}
 use Rattle.subsets.specs.Subsets.{with_next, Small}
 use Rattle.late_sets.specs.LateSets.{Kept, Continues, Possible, InTime, BeginsWith, CoversAs}
 use Rattle.late_sets.proofs.Joining.{cond_out, one_of, new_one, old_one, open_none, possible_next}
+use Rattle.rows.specs.declared.Rows.{Rows}
+use Rattle.rows.specs.declared.Messages.{Messages}
 
 -- the subset without its next task: those after it may still join
 abbrev pub without : Subset → Subset
@@ -48,7 +50,7 @@ nothing processors = record { set = 0; next = 0; processors = processors; memory
 abbrev pub WithNext : Subset → (ℕ → Bool) → Type 0
 WithNext x y = BeginsWith x y × T (y x.next)
 
-module _ {t : Table} {sizes : Sizes} {rows links : List (List ℕ)} (l : Lent t sizes rows links) where
+module _ {t : Table} {sizes : Sizes} {rows : Rows} {links : Messages} (l : Lent t sizes rows links) where
   module _ {x : Subset} {list : List ℕ} {count : ℕ} (w : Continues t x list count) where
     -- the next one is a task of the table
     pub next_task : x.next < sizes.tasks → x.next < t.tasks.count
@@ -95,13 +97,13 @@ module _ {t : Table} {sizes : Sizes} {rows links : List (List ℕ)} (l : Lent t 
           go k i u (yes e) = rw e (new_one x.set x.next)
           go k i u (no e) = old_one x.set x.next k (b.0.no_other k (omega arith) u)
 
-module _ {t : Table} {sizes : Sizes} {rows links : List (List ℕ)} {s : State} (l : Lent t sizes rows links) where
+module _ {t : Table} {sizes : Sizes} {rows : Rows} {links : Messages} {s : State} (l : Lent t sizes rows links) where
   -- a conflict within a set that can stand on p
   met_within : Fits t s → {x : Subset} → Possible t rows s x → (p : ℕ) → T (has x.processors p) → {c : ℕ} → SubsetOf c x.set → Met t (Within (standing s.on)) c
   met_within f {x} w p here {c} within = met_among l.sound f (w.processor p here) (λ k. has x.set k && has s.left k) waits home either
     where
-      where_stands : (k : ℕ) → T (has x.set k) → (T (has s.left k) × T (has (get_or (residence_row rows) k 0) p)) ⊎ T (has (get_or s.on p 0) k)
-      where_stands k u = cond_out (has s.left k) (has (get_or (residence_row rows) k 0) p) (has (get_or s.on p 0) k) (w.stands p here k u)
+      where_stands : (k : ℕ) → T (has x.set k) → (T (has s.left k) × T (has (get_or rows.residence k 0) p)) ⊎ T (has (get_or s.on p 0) k)
+      where_stands k u = cond_out (has s.left k) (has (get_or rows.residence k 0) p) (has (get_or s.on p 0) k) (w.stands p here k u)
 
       waits : (k : ℕ) → T (has x.set k && has s.left k) → T (has s.left k)
       waits k u = and_right (has x.set k) (has s.left k) u

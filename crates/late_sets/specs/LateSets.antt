@@ -16,6 +16,7 @@ use Rattle.region.specs.Region.{Within, Met}
 use Rattle.subsets.specs.declared.Subset.{Subset}
 use Rattle.subsets.specs.Subsets.{can_stand, Small}
 use Rattle.late_sets.specs.declared.Covering.{Covering}
+use Rattle.rows.specs.declared.Rows.{Rows}
 
 -- what the open tasks of a set take, by a row
 unfoldable pub open_sum : Table → State → List ℕ → ℕ → ℕ
@@ -35,7 +36,7 @@ pub record Continues (t : Table) (x : Subset) (list : List ℕ) (count : ℕ) : 
   pub small : Small x
 
 -- where the set could stand: each task of it on each of its processors; and each processor on which a placement has all of it is one of them
-pub record Possible (t : Table) (rows : List (List ℕ)) (s : State) (x : Subset) : Type 0 where
+pub record Possible (t : Table) (rows : Rows) (s : State) (x : Subset) : Type 0 where
   pub memory : x.memory ≡ open_sum t s t.tasks.memory x.set
   pub load : x.load ≡ open_sum t s (loads_of t) x.set
   pub processor : (p : ℕ) → T (has x.processors p) → p < t.processors.count

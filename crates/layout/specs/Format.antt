@@ -1,11 +1,9 @@
 -- The table file's format (01, "The table file"), and where its records and fields stand.
-use Rattle.std.specs.Prelude.{◌≡◌, Bool, true, false, List, [], ◌∷◌, ℕ, ◌+◌, ◌*◌, ◌≤◌, length, get_or}
+use Rattle.std.specs.Prelude.{◌≡◌, Bool, true, false, List, [], ◌∷◌, ℕ, ◌+◌, ◌*◌, ◌≤◌, length, get_or, Option, Some, None}
 use Rattle.finite.specs.Finite.{sum_to}
 use Rattle.wire.specs.Wire.{number, mark_at}
 use Rattle.layout.specs.declared.Kind.{Kind}
 use Rattle.layout.specs.declared.Kind.TheVariants.{Network, Processor, Task, CoResident, Exclusive, Message}
-use Rattle.layout.specs.declared.Mark.{Mark}
-use Rattle.layout.specs.declared.Mark.TheVariants.{Known, Unknown}
 use Rattle.layout.specs.declared.Progress.{Progress}
 use Rattle.layout.specs.declared.Series.{Series}
 use Rattle.layout.specs.declared.Shape.{Shape}
@@ -118,15 +116,15 @@ unfoldable pub longest : ℕ
 longest = bytes_of (λ k. (row k).most) (length kinds)
 
 -- the kind, of some, whose mark stands at a place
-abbrev pub first_mark : Bool → Kind → Mark → Mark
-first_mark true k m = Known k
+abbrev pub first_mark : Bool → Kind → Option Kind → Option Kind
+first_mark true k m = Some k
 first_mark false k m = m
 
-abbrev pub marked_of : List Kind → List ℕ → ℕ → Mark
-marked_of [] s at = Unknown
+abbrev pub marked_of : List Kind → List ℕ → ℕ → Option Kind
+marked_of [] s at = None
 marked_of (k ∷ ks) s at = first_mark (mark_at s at (row k).mark) k (marked_of ks s at)
 
-unfoldable pub kind_at : List ℕ → ℕ → Mark
+unfoldable pub kind_at : List ℕ → ℕ → Option Kind
 kind_at = marked_of kinds
 
 -- no kind has more records than it may

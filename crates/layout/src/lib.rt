@@ -15,13 +15,6 @@ pub enum Kind {
     Message,
 }
 
-// What the two bytes of a mark name.
-#[derive(Clone, Copy)]
-pub enum Mark {
-    Known(Kind),
-    Unknown,
-}
-
 // The records taken so far: how many of each kind, the first kind that may follow, the least common multiple of the periods.
 #[derive(Clone, Copy)]
 pub struct Progress {
@@ -72,30 +65,30 @@ pub fn shape_of(kind: Kind) -> Shape
     }
 }
 
-// The kind whose mark stands at a place.
-pub fn kind_at(file: &[u8], at: usize) -> Mark
+// The kind whose mark stands at a place, if one does.
+pub fn kind_at(file: &[u8], at: usize) -> Option<Kind>
     requires { at + 2 ≤ length file.now }
     ensures { result ≡ kind_at file.now at }
 {
     if wire::has_mark(file, at, b"NT") {
-        return Mark::Known(Kind::Network);
+        return Some(Kind::Network);
     }
     if wire::has_mark(file, at, b"PR") {
-        return Mark::Known(Kind::Processor);
+        return Some(Kind::Processor);
     }
     if wire::has_mark(file, at, b"TK") {
-        return Mark::Known(Kind::Task);
+        return Some(Kind::Task);
     }
     if wire::has_mark(file, at, b"CO") {
-        return Mark::Known(Kind::CoResident);
+        return Some(Kind::CoResident);
     }
     if wire::has_mark(file, at, b"EX") {
-        return Mark::Known(Kind::Exclusive);
+        return Some(Kind::Exclusive);
     }
     if wire::has_mark(file, at, b"MS") {
-        return Mark::Known(Kind::Message);
+        return Some(Kind::Message);
     }
-    Mark::Unknown
+    None
 }
 
 // How many records of a kind were taken.

@@ -1,9 +1,7 @@
 -- The lines of the program's listing that hold numbers, as bytes (01, "The program"). Every line ends in one LF. Assumes nothing.
-use Rattle.std.specs.Prelude.{cond, List, [], ◌++◌, ℕ}
+use Rattle.std.specs.Prelude.{cond, Option, Some, None, List, [], ◌++◌, ℕ, ℤ}
 use Rattle.wire.specs.Wire.{pieces}
 use Rattle.mask.specs.Mask.{has}
-use Rattle.schedule.specs.declared.Margin.{Margin}
-use Rattle.schedule.specs.declared.Margin.TheVariants.{Known, Beyond}
 use Rattle.text.specs.Text.{ascii, decimal, signed}
 use Rattle.lines.specs.declared.Stand.{Stand}
 
@@ -16,9 +14,9 @@ abbrev pub spaced : ℕ → List ℕ
 spaced x = item (ascii " ") x
 
 -- 02: a margin is a signed number, or the mark for "beyond"
-abbrev pub margin_text : Margin → List ℕ
-margin_text (Known x) = signed x
-margin_text Beyond = ascii "beyond"
+abbrev pub margin_text : Option ℤ → List ℕ
+margin_text (Some x) = signed x
+margin_text None = ascii "beyond"
 
 -- 01: task lines give task, processor, response and deadline; 02: they end in `margin` and this
 abbrev pub task_line : Stand → List ℕ

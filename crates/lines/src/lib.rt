@@ -54,8 +54,8 @@ fn put_margin(text: &mut [u8], at: usize, margin: Margin) -> usize
     ensures { Put text.old at (margin_text margin) text.new result × (result ≤ at + 21) }
 {
     match margin {
-        Margin::Known(x) => text::put_signed(text, at, x),
-        Margin::Beyond => text::put(text, at, &BEYOND),
+        Some(x) => text::put_signed(text, at, x),
+        None => text::put(text, at, &BEYOND),
     }
 }
 
@@ -109,10 +109,8 @@ pub fn conflict_line(text: &mut [u8], at: usize, n: usize, mask: u32) -> usize
     ensures { Put text.old at (conflict_line n mask) text.new result × (result ≤ at + 128) }
 {
     let mut end = text::put(text, at, &CONFLICT);
-    let mut k: usize = 0;
-    while k < n {
+    for k in 0..n {
         end = put_member(text, end, mask, k);
-        k += 1;
     }
     text::put(text, end, &LF)
 }

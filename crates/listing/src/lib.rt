@@ -3,21 +3,18 @@
 
 ghost use Rattle.listing.specs.Listing.{Printed};
 
-use search::Answer;
-
 // Searches a file and puts the listing of the answer; returns where it ends.
 pub fn listing(text: &mut [u8; 358400], file: &[u8], answer: &mut [u8; 16384]) -> usize
     ensures { Printed file.now answer.old answer.new text.old text.new result }
 {
-    let searched = search::search(file, answer);
-    match searched {
-        Answer::Refused(cause, place) => {
-            lines::refused_line(text, 0, codes::cause_number(cause), place)
-        }
-        Answer::Written(count) => {
-            let reading = table::read(file);
-            let table = reading.table;
+    match search::search(file, answer) {
+        Ok(count) => {
+            // A file that was searched can be read.
+            let table = table::read(file).unwrap();
             report::put_answer(text, file, table, answer, count)
+        }
+        Err(refusal) => {
+            lines::refused_line(text, 0, codes::cause_number(refusal.cause), refusal.place)
         }
     }
 }

@@ -9,7 +9,7 @@ use native.Mathlib.Decide.{ℕ_discrete}
 use native.Mathlib.Omega.{arith}
 use borrow.Author.Tests.{eq-eqb, ne_eqb, lt-ltb, le-ltb}
 use lib.Dec.{T, eqb, ltb, eqb→eq, eqb_refl, ltb→lt, lt→ltb, eqb-suc-zero, eqb-zero-suc, eqb-suc-suc}
-use lib.Bits.{bit_and, bit_or, and_step, or_step, and_shr, or_shr, or_shifted_r, and_le_l, and_high}
+use lib.Bits.{bit_and, bit_or, and_self, and_step, or_step, and_shr, or_shr, or_shifted_r, and_le_l, and_high}
 use lib.Count.{ones, ones_step, count_trailing_zeros, under}
 use lib.Pow.{shl_exact, pow-add, pow_mono, pow_pos, shr-shr}
 use Rattle.finite.specs.Finite.{only, sum_to}
@@ -359,6 +359,25 @@ trailing_lowest (suc w) m p h = go (m % 2) refl (λ (q : 0 < m / 2). trailing_lo
 -- the zeros below the lowest set digit of a word of w digits
 pub trailing : (w m : ℕ) → 0 < m → m < 2 ^ w → count_trailing_zeros w m ≡ lowest_of w m
 trailing w m p h = lowest_one (trailing_lowest w m p h) (lowest_is w m p h)
+
+-- what m shares with the number before it is all of m but its lowest set digit
+shared_before : (w m : ℕ) → 0 < m → m < 2 ^ w → bit_and m (m - 1) + 2 ^ count_trailing_zeros w m ≡ m
+unfolding count_trailing_zeros
+shared_before zero m p h = absurd (omega arith)
+shared_before (suc w) m p h = go (m % 2) refl (λ (q : 0 < m / 2). shared_before w (m / 2) q (omega (arith, pow-suc 2 w)))
+  where
+    half : {x : ℕ} → (m - 1) / 2 ≡ x → bit_and m (m - 1) ≡ bit_and (m / 2) x * 2 + min (m % 2) ((m - 1) % 2)
+    half e = rw (← e) (and_step m (m - 1))
+
+    go : (d : ℕ) → m % 2 ≡ d → (0 < m / 2 → bit_and (m / 2) (m / 2 - 1) + 2 ^ count_trailing_zeros w (m / 2) ≡ m / 2)
+        → bit_and m (m - 1) + 2 ^ under d (count_trailing_zeros w (m / 2)) ≡ m
+    go zero e ih = omega (arith, half {x = m / 2 - 1} (omega arith), ih (omega arith), pow-suc 2 (count_trailing_zeros w (m / 2)))
+    go (suc d) e ih = omega (arith, half {x = m / 2} (omega arith), and_self (m / 2))
+
+pub clear_lowest : (w m : ℕ) → 0 < m → m < 2 ^ w → bit_and m (m - 1) ≡ remove_of m (lowest_of w m)
+clear_lowest w m p h =
+    let l = lowest_of w m in
+    rw (and_pow m l, eqb→eq (bit m l) 1 (lowest_is w m p h).member) (omega (arith, rw (trailing w m p h) at (shared_before w m p h), one-mul (2 ^ l)))
 
 -- ---- a bit at a width
 

@@ -1,5 +1,5 @@
 -- Sets of small numbers as masks. 01: bit k of a mask names number k. Assumes nothing.
-use Rattle.std.specs.Prelude.{Bool, ℕ, ◌-◌, ◌/◌, ◌%◌, ◌^◌, T, eqb, ltb}
+use Rattle.std.specs.Prelude.{◌≡◌, Bool, ℕ, ◌-◌, ◌/◌, ◌%◌, ◌^◌, ◌<◌, T, eqb, ltb, Option, MatchOption}
 use Rattle.std.specs.Int.Bits.{bit_and, bit_or}
 use Rattle.finite.specs.Finite.{only, sum_to, first_from}
 
@@ -46,3 +46,11 @@ mask_of n p = sum_to n (λ k. only (p k) (2 ^ k))
 -- the sum of f over the numbers below n that are in m
 unfoldable pub sum_over : ℕ → ℕ → (ℕ → ℕ) → ℕ
 sum_over n m f = sum_to n (λ k. only (has m k) (f k))
+
+-- of the numbers in `left` the lowest comes next, k, and the others are left
+abbrev pub ComesNext : ℕ → ℕ → ℕ → Type 0
+ComesNext left k rest = (0 < left) × (k ≡ lowest_of 32 left) × (rest ≡ remove_of left k)
+
+-- of the numbers in `left` the next came, or none was left, and none is
+abbrev pub NextMember : ℕ → Option ℕ → ℕ → Type 0
+NextMember left r rest = MatchOption r ((left ≡ 0) × (rest ≡ 0)) (λ k. ComesNext left k rest)

@@ -2,7 +2,8 @@
 #![tactic(auto)]
 
 ghost use Rattle.std.specs.Prelude.{◌≡◌, true, ◌&&◌, ◌<◌, leb};
-ghost use Rattle.mask.specs.Mask.{has, within, below, cardinality, insert_of, remove_of, lowest_of, mask_of};
+ghost use Rattle.std.specs.Iterator.{at_most};
+ghost use Rattle.mask.specs.Mask.{has, within, below, cardinality, insert_of, remove_of, lowest_of, mask_of, NextMember};
 
 // Whether k is in the set.
 pub fn has(mask: u32, k: usize) -> bool
@@ -75,4 +76,36 @@ pub fn all_below(n: usize) -> u32
     ensures { result ≡ mask_of n (λ j. true) }
 {
     (1 << n) - 1
+}
+
+// The numbers of a set that are still to come, the lowest first.
+#[derive(Drop)]
+pub struct Ascending {
+    left: u32,
+}
+
+// The numbers of the set, the lowest first.
+pub fn members(set: u32) -> Ascending
+    ensures { result.left ≡ set }
+{
+    Ascending { left: set }
+}
+
+impl Iterator for Ascending {
+    type Item = usize;
+
+    ghost next_gives = { λ s r t. NextMember s.left r t.left };
+
+    ghost remaining = { λ s. at_most s.left };
+
+    // The lowest number that is still to come; none when all have come.
+    fn next(&mut self) -> Option<usize> {
+        let left = self.left;
+        if left == 0 {
+            return None;
+        }
+        let k = lowest(left);
+        self.left = left & (left - 1);
+        Some(k)
+    }
 }

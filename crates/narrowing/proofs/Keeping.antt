@@ -3,6 +3,8 @@ use mathlib.Core.Path.{◌≡◌, subst}
 use mathlib.Core.Logic.{⊎_elim}
 use mathlib.Core.Bool.{Bool, true, false, not, ◌&&◌, cond}
 use mathlib.Core.List.{List}
+use Rattle.std.proofs.Common.{Option, Some, None}
+use Rattle.std.specs.Option.{is_some}
 use Prim.Native.Nat.{ℕ, ◌≤◌, ◌<◌}
 use native.Mathlib.Decide.{dec_lt}
 use native.Mathlib.Omega.{arith}
@@ -44,21 +46,24 @@ use Rattle.region.proofs.Lending.{lent_tasks}
 use Rattle.region.proofs.Narrowing.{others_step, narrowed_step, narrowed_may}
 use Rattle.candidates.specs.Candidates.{Fair, Choices}
 use Rattle.narrowing.specs.Narrowing.{may_stand, narrow_of, may_of, reaches, prepared_of, refreshed_of}
+use Rattle.schedule.specs.declared.Timing.{Timing}
+use Rattle.rows.specs.declared.Rows.{Rows}
+use Rattle.rows.specs.declared.Messages.{Messages}
 
-module _ {t : Table} {sizes : Sizes} {timing rows links : List (List ℕ)} (l : Lends t sizes timing rows links) (list : List ℕ) (count : ℕ) where
+module _ {t : Table} {sizes : Sizes} {timing : Timing} {rows : Rows} {links : Messages} (l : Lends t sizes timing rows links) (list : List ℕ) (count : ℕ) where
   module _ {s : State} (f : Fits t s) where
     -- the open task k on processor p
     module _ (k p : ℕ) (waits : T (has s.left k)) (low : p < t.processors.count) where
-      trial : let r = trial_of rows links sizes (site_of s p) k p in TrialOf t s k p r.allowed r.added
+      trial : TrialOf t s k p (trial_of rows links sizes (site_of s p) k p)
       trial = trial_right l.rules f k p waits (rw l.rules.processors low)
 
       -- where it may stand, it may reside
       stands_resides : T (may_stand timing rows links sizes false list count (site_of s p) p k) → T (has (get_or t.tasks.residence k 0) p)
-      stands_resides u = go (trial_of rows links sizes (site_of s p) k p).allowed (and_left (trial_of rows links sizes (site_of s p) k p).allowed _ u) trial
+      stands_resides u = go (trial_of rows links sizes (site_of s p) k p) (and_left (is_some (trial_of rows links sizes (site_of s p) k p)) _ u) trial
         where
-          go : (b : Bool) → T b → TrialOf t s k p b (trial_of rows links sizes (site_of s p) k p).added → T (has (get_or t.tasks.residence k 0) p)
-          go false v w = elim v [ ]
-          go true v w = residence_needed t l.rules.sound (standing s.on) f.keeps k p (f.open_task k waits).0 low w.keeps
+          go : (r : Option ℕ) → T (is_some r) → TrialOf t s k p r → T (has (get_or t.tasks.residence k 0) p)
+          go None v w = elim v [ ]
+          go (Some added) v w = residence_needed t l.rules.sound (standing s.on) f.keeps k p (f.open_task k waits).0 low w.keeps
 
       -- its set is late
       late_refuted : T (late_test (tasks_of sizes.tasks timing) (has (insert_of (get_or s.on p 0) k))) → Refuted t (LateSet (tasks_in t)) (Within (and_task (standing s.on) k p))
@@ -86,13 +91,13 @@ module _ {t : Table} {sizes : Sizes} {timing rows links : List (List ℕ)} (l : 
       -- where it may not stand, its region is refuted
       closed_refuted : (T (may_stand timing rows links sizes false list count (site_of s p) p k) → ⊥) → Refuted t (LateSet (tasks_in t)) (Within (and_task (standing s.on) k p))
       closed_refuted g =
-          go (trial_of rows links sizes (site_of s p) k p).allowed (late_test (tasks_of sizes.tasks timing) (has (insert_of (get_or s.on p 0) k))) g trial late_refuted
+          go (trial_of rows links sizes (site_of s p) k p) (late_test (tasks_of sizes.tasks timing) (has (insert_of (get_or s.on p 0) k))) g trial late_refuted
         where
-          go : (a b : Bool) → (T (a && not b) → ⊥) → TrialOf t s k p a (trial_of rows links sizes (site_of s p) k p).added
+          go : (r : Option ℕ) (b : Bool) → (T (is_some r && not b) → ⊥) → TrialOf t s k p r
               → (T b → Refuted t (LateSet (tasks_in t)) (Within (and_task (standing s.on) k p))) → Refuted t (LateSet (tasks_in t)) (Within (and_task (standing s.on) k p))
-          go false b e w late = refuted_broken t (LateSet (tasks_in t)) (and_task (standing s.on) k p) w
-          go true true e w late = late tt
-          go true false e w late = absurd (e tt)
+          go None b e w late = refuted_broken t (LateSet (tasks_in t)) (and_task (standing s.on) k p) w
+          go (Some added) true e w late = late tt
+          go (Some added) false e w late = absurd (e tt)
 
     -- a processor that is tested anew
     narrowed_anew : (p set : ℕ) → p < t.processors.count → OthersRefuted t s p set

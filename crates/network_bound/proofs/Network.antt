@@ -21,7 +21,7 @@ use Rattle.rules.specs.Rules.{crosses, amount_of, traffic, network_broken}
 use Rattle.rules.specs.Sets.{standing}
 use Rattle.rules.proofs.Where.{apart_elim, apart_intro}
 use Rattle.rules.proofs.Monotone.{apart_more}
-use Rattle.rows.specs.Rows.{amounts_of, exclusions_of, messages_of, exclusion_row}
+use Rattle.rows.specs.Rows.{amounts_of, exclusions_of, messages_of}
 use Rattle.rows.proofs.Laws.{amounts_get}
 use Rattle.partial.specs.declared.State.{State}
 use Rattle.partial.specs.declared.Sizes.{Sizes}
@@ -33,10 +33,12 @@ use Rattle.candidates.specs.Candidates.{Fair, Choices}
 use Rattle.candidates.proofs.Meeting.{not_both}
 use Rattle.candidates.proofs.Fairness.{stands_or_open, not_both_there}
 use Rattle.network_bound.specs.NetworkBound.{must_cross, crossing_of}
+use Rattle.rows.specs.declared.Rows.{Rows}
+use Rattle.rows.specs.declared.Messages.{Messages}
 
 -- what the messages amount to, by the table's rows
-pub crossing_as : {t : Table} {sizes : Sizes} {rows links : List (List ℕ)} → Lent t sizes rows links
-    → (s : State) (sets : List ℕ) {r : ℕ} → r ≡ crossing_of (exclusion_row rows) links sizes.messages s sets sizes.processors
+pub crossing_as : {t : Table} {sizes : Sizes} {rows : Rows} {links : Messages} → Lent t sizes rows links
+    → (s : State) (sets : List ℕ) {r : ℕ} → r ≡ crossing_of rows.exclusions links sizes.messages s sets sizes.processors
     → r ≡ crossing_of (exclusions_of t) (messages_of t) t.messages.count s sets t.processors.count
 unfolding crossing_of
 crossing_as l s sets e = rw (l.same_exclusions, l.same_sender, l.same_receiver, l.same_amounts, l.messages, l.processors) at e

@@ -9,22 +9,20 @@ ghost use Rattle.knapsack.specs.Knapsack.{joined};
 ghost use Rattle.network_bound.specs.NetworkBound.{must_cross, crossing_of};
 
 use partial::State;
-use rows::{AMOUNT, Messages, RECEIVER, SENDER};
+use rows::Messages;
 
 // Whether one of the m processors has or can take both tasks.
 fn can_meet(s: State, sets: [u32; 8], m: usize, from: usize, to: usize) -> bool
     requires { (m ≤ 8) × (from < 32) × (to < 32) }
     ensures { result ≡ some_below m (λ p. joined (get_or s.on p 0) (get_or sets p 0) from && joined (get_or s.on p 0) (get_or sets p 0) to) }
 {
-    let mut p: usize = 0;
-    while p < m {
+    for p in 0..m {
         let all = sets[p] | s.on[p];
         if mask::has(all, from) {
             if mask::has(all, to) {
                 return true;
             }
         }
-        p += 1;
     }
     false
 }
@@ -74,14 +72,12 @@ pub fn crossing<'a>(
     ensures { result ≡ crossing_of exclusions.now messages.now count s sets m }
 {
     let mut sum: u64 = 0;
-    let mut j: usize = 0;
-    while j < count {
-        let from = messages[SENDER][j] as usize;
-        let to = messages[RECEIVER][j] as usize;
+    for j in 0..count {
+        let from = messages.sender[j] as usize;
+        let to = messages.receiver[j] as usize;
         if must_cross(exclusions, s, sets, m, from, to) {
-            sum += messages[AMOUNT][j];
+            sum += messages.amount[j];
         }
-        j += 1;
     }
     sum
 }

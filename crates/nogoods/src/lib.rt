@@ -48,10 +48,8 @@ pub fn forget(lateness: &mut LateCache)
 fn open_table(lateness: &mut LateCache)
     ensures { lateness.new ≡ set (cleared lateness.old 16384) 81920 1 }
 {
-    let mut n: usize = 0;
-    while n < 16384 {
+    for n in 0..16384 {
         lateness[65536 + n] = 0;
-        n += 1;
     }
     lateness[81920] = 1;
 }

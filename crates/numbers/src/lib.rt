@@ -7,15 +7,12 @@ ghost use Rattle.std.specs.Prelude.{◌≡◌, ◌<◌, min};
 pub fn wide(x: u32) -> u64
     ensures { (result ≡ x) × (result < 4294967296) }
 {
-    x as u64
+    u64::from(x)
 }
 
 // The lower of two numbers.
 pub fn lower(a: u64, b: u64) -> u64
     ensures { result ≡ min a b }
 {
-    if a < b {
-        return a;
-    }
-    b
+    a.min(b)
 }

@@ -2,7 +2,7 @@
 use mathlib.Core.Path.{◌≡◌, refl, ◌∙◌, ap}
 use mathlib.Core.Logic.{◌≢◌, ◌⊎◌, inl, inr}
 use mathlib.Core.Bool.{Bool, true, false, not, ◌&&◌, ◌||◌, cond}
-use mathlib.Core.List.{List}
+use Rattle.std.proofs.Common.{Some, None}
 use Prim.Native.Nat.{ℕ, ◌+◌, ◌*◌, ◌/◌, ◌≤◌, ◌<◌}
 use native.Mathlib.Omega.{arith}
 use borrow.Author.Tests.{leb-true, leb-false}
@@ -17,15 +17,16 @@ use Rattle.rules.specs.Placement.{and_task, elsewhere}
 use Rattle.rules.specs.Rules.{traffic, network_broken, Keeps}
 use Rattle.rules.specs.Sets.{standing, meets}
 use Rattle.rules.proofs.Where.{elsewhere_elim, elsewhere_intro}
-use Rattle.rows.specs.Rows.{beside_of, messages_of, residence_row, memory_row, load_row, exclusion_row, partner_row}
+use Rattle.rows.specs.Rows.{beside_of, messages_of}
 use Rattle.rows.proofs.Laws.{loads_get, neighbours_get}
 use Rattle.partial.specs.declared.State.{State}
 use Rattle.partial.specs.declared.Sizes.{Sizes}
 use Rattle.partial.specs.Partial.{Lent, Fits, site_of}
 use Rattle.partial.specs.declared.Site.{Site}
-use Rattle.partial.specs.declared.Trial.{Trial}
 use Rattle.partial.specs.Tests.{neither, suits, between, trial_of, TrialOf}
 use Rattle.partial.proofs.OneMore as one
+use Rattle.rows.specs.declared.Rows.{Rows}
+use Rattle.rows.specs.declared.Messages.{Messages}
 
 -- the tasks on other processors than p, as the code finds them
 abbrev pub others_than : Sizes → State → ℕ → ℕ
@@ -76,7 +77,7 @@ others_stand {t} {s} f p j = has_mask n (λ i. not (has here i || has s.left i))
         go r v d (inl x) = d (f.partial.once j r p v x)
         go r v d (inr x) = (f.open_task j x).1 r v
 
-module _ {t : Table} {sizes : Sizes} {rows links : List (List ℕ)} {s : State}
+module _ {t : Table} {sizes : Sizes} {rows : Rows} {links : Messages} {s : State}
     (e : Lent t sizes rows links) (f : Fits t s)
     (k p : ℕ) (free : T (has s.left k)) (low : p < sizes.processors) where
   task : k < t.tasks.count
@@ -85,13 +86,13 @@ module _ {t : Table} {sizes : Sizes} {rows links : List (List ℕ)} {s : State}
   on_table : p < t.processors.count
   on_table = omega (arith, e.processors)
 
-  excluded_at : get_or (exclusion_row rows) k 0 ≡ beside_of t.ex t.tasks.count k
+  excluded_at : get_or rows.exclusions k 0 ≡ beside_of t.ex t.tasks.count k
   excluded_at = rw e.same_exclusions (neighbours_get t e.sound t.ex k task)
 
-  partners_at : get_or (partner_row rows) k 0 ≡ beside_of t.co t.tasks.count k
+  partners_at : get_or rows.partners k 0 ≡ beside_of t.co t.tasks.count k
   partners_at = rw e.same_partners (neighbours_get t e.sound t.co k task)
 
-  pub load_at : get_or (load_row rows) k 0 ≡ get_or t.tasks.c k 0 * t.hyperperiod / get_or t.tasks.t k 0
+  pub load_at : get_or rows.load k 0 ≡ get_or t.tasks.c k 0 * t.hyperperiod / get_or t.tasks.t k 0
   load_at = rw e.same_loads (loads_get t e.sound k task)
 
   others_at : (j : ℕ) → has (others_than sizes s p) j ≡ elsewhere t.processors.count p (standing s.on j)
@@ -110,15 +111,15 @@ module _ {t : Table} {sizes : Sizes} {rows links : List (List ℕ)} {s : State}
 
   -- ---- rules that are kept
 
-  pub keeps_memory : KeepsWith t s k p → get_or (memory_row rows) k 0 ≤ get_or s.memory p 0
+  pub keeps_memory : KeepsWith t s k p → get_or rows.memory k 0 ≤ get_or s.memory p 0
   keeps_memory keeps = rw e.same_memory
       (one.memory_needed t e.sound (standing s.on) f.keeps k p task on_table (f.open_task k free).1 (get_or s.memory p 0) (f.memory p on_table) keeps)
 
-  pub keeps_load : KeepsWith t s k p → get_or (load_row rows) k 0 ≤ get_or s.load p 0
+  pub keeps_load : KeepsWith t s k p → get_or rows.load k 0 ≤ get_or s.load p 0
   keeps_load keeps = rw load_at
       (one.utilisation_needed t e.sound (standing s.on) f.keeps k p task on_table (f.open_task k free).1 (get_or s.load p 0) (f.load p on_table) keeps)
 
-  pub keeps_whole : KeepsWith t s k p → T (meets (get_or (partner_row rows) k 0) (others_than sizes s p)) → ⊥
+  pub keeps_whole : KeepsWith t s k p → T (meets (get_or rows.partners k 0) (others_than sizes s p)) → ⊥
   keeps_whole keeps = rw partners_at
       (one.co_residence_needed t e.sound (standing s.on) f.keeps k p task on_table (f.open_task k free).1 (others_than sizes s p) others_at keeps)
 
@@ -132,17 +133,17 @@ module _ {t : Table} {sizes : Sizes} {rows links : List (List ℕ)} {s : State}
   unfolding suits
   keeps_suits keeps =
       let old = f.keeps in
-      and_both (has (get_or (residence_row rows) k 0) p && leb (get_or (memory_row rows) k 0) (get_or s.memory p 0)) _
-      (and_both (has (get_or (residence_row rows) k 0) p) _
+      and_both (has (get_or rows.residence k 0) p && leb (get_or rows.memory k 0) (get_or s.memory p 0)) _
+      (and_both (has (get_or rows.residence k 0) p) _
       (rw e.same_residence (one.residence_needed t e.sound (standing s.on) old k p task on_table keeps))
       (le→leb _ _ (keeps_memory keeps)))
-      (and_both (leb (get_or (load_row rows) k 0) (get_or s.load p 0)) _
+      (and_both (leb (get_or rows.load k 0) (get_or s.load p 0)) _
       (le→leb _ _ (keeps_load keeps))
-      (not_T (meets (get_or (exclusion_row rows) k 0) (get_or s.on p 0)) (rw excluded_at (one.exclusion_needed t e.sound (standing s.on) old k p task on_table (get_or s.on p 0) (λ j. refl) keeps))))
+      (not_T (meets (get_or rows.exclusions k 0) (get_or s.on p 0)) (rw excluded_at (one.exclusion_needed t e.sound (standing s.on) old k p task on_table (get_or s.on p 0) (λ j. refl) keeps))))
 
   -- tests that pass
   pub tests_keep : T (suits rows (site_of s p) k p)
-      → (T (meets (get_or (partner_row rows) k 0) (others_than sizes s p)) → ⊥)
+      → (T (meets (get_or rows.partners k 0) (others_than sizes s p)) → ⊥)
       → between links sizes.messages k (others_than sizes s p) ≤ s.traffic
       → KeepsWith t s k p
   unfolding suits network_broken
@@ -151,35 +152,35 @@ module _ {t : Table} {sizes : Sizes} {rows links : List (List ℕ)} {s : State}
       let sound = e.sound in
       let on = standing s.on in
       let new = (f.open_task k free).1 in
-      let first = and_left (has (get_or (residence_row rows) k 0) p && leb (get_or (memory_row rows) k 0) (get_or s.memory p 0)) _ u in
-      let second = and_right (has (get_or (residence_row rows) k 0) p && leb (get_or (memory_row rows) k 0) (get_or s.memory p 0)) _ u in
+      let first = and_left (has (get_or rows.residence k 0) p && leb (get_or rows.memory k 0) (get_or s.memory p 0)) _ u in
+      let second = and_right (has (get_or rows.residence k 0) p && leb (get_or rows.memory k 0) (get_or s.memory p 0)) _ u in
       record {
-        residence = one.residence_kept t sound on old k p task on_table (rw e.same_residence at (and_left (has (get_or (residence_row rows) k 0) p) _ first));
+        residence = one.residence_kept t sound on old k p task on_table (rw e.same_residence at (and_left (has (get_or rows.residence k 0) p) _ first));
         co_residence = one.co_residence_kept t sound on old k p task on_table new (others_than sizes s p) others_at (rw partners_at at whole);
         exclusion = one.exclusion_kept t sound on old k p task on_table (get_or s.on p 0) (λ j. refl)
-            (rw excluded_at at (T_not (meets (get_or (exclusion_row rows) k 0) (get_or s.on p 0)) (and_right (leb (get_or (load_row rows) k 0) (get_or s.load p 0)) _ second)));
+            (rw excluded_at at (T_not (meets (get_or rows.exclusions k 0) (get_or s.on p 0)) (and_right (leb (get_or rows.load k 0) (get_or s.load p 0)) _ second)));
         memory = one.memory_kept t sound on old k p task on_table new (get_or s.memory p 0) (f.memory p on_table)
-            (rw e.same_memory at (leb→le (get_or (memory_row rows) k 0) (get_or s.memory p 0) (and_right (has (get_or (residence_row rows) k 0) p) _ first)));
+            (rw e.same_memory at (leb→le (get_or rows.memory k 0) (get_or s.memory p 0) (and_right (has (get_or rows.residence k 0) p) _ first)));
         utilisation = one.utilisation_kept t sound on old k p task on_table new (get_or s.load p 0) (f.load p on_table)
-            (rw load_at at (leb→le (get_or (load_row rows) k 0) (get_or s.load p 0) (and_left (leb (get_or (load_row rows) k 0) (get_or s.load p 0)) _ second)));
+            (rw load_at at (leb→le (get_or rows.load k 0) (get_or s.load p 0) (and_left (leb (get_or rows.load k 0) (get_or s.load p 0)) _ second)));
         network = one.le_kept (t.capacity * t.hyperperiod) (traffic t (and_task on k p)) (omega (arith, traffic_with, f.traffic));
       }
 
   -- ---- so the trial is right
 
-  pub trial_right : let r = trial_of rows links sizes (site_of s p) k p in TrialOf t s k p r.allowed r.added
+  pub trial_right : TrialOf t s k p (trial_of rows links sizes (site_of s p) k p)
   unfolding trial_of
-  trial_right = go (suits rows (site_of s p) k p) (meets (get_or (partner_row rows) k 0) (others_than sizes s p)) refl refl
+  trial_right = go (suits rows (site_of s p) k p) (meets (get_or rows.partners k 0) (others_than sizes s p)) refl refl
     where
       added : ℕ
       added = between links sizes.messages k (others_than sizes s p)
 
-      network : T (suits rows (site_of s p) k p) → (T (meets (get_or (partner_row rows) k 0) (others_than sizes s p)) → ⊥) → (x : Bool) → leb added s.traffic ≡ x → TrialOf t s k p x added
+      network : T (suits rows (site_of s p) k p) → (T (meets (get_or rows.partners k 0) (others_than sizes s p)) → ⊥) → (x : Bool) → leb added s.traffic ≡ x → TrialOf t s k p (cond x (Some added) None)
       network own whole true q = record { keeps = tests_keep own whole (leb-true added s.traffic q); traffic = traffic_with }
       network own whole false q = λ keeps. omega (arith, leb-false added s.traffic q, keeps_carries keeps)
 
-      go : (own parted : Bool) → suits rows (site_of s p) k p ≡ own → meets (get_or (partner_row rows) k 0) (others_than sizes s p) ≡ parted
-          → let r : Trial = cond (own && not parted) (record { allowed = leb added s.traffic; added = added }) (record { allowed = false; added = 0 }) in TrialOf t s k p r.allowed r.added
+      go : (own parted : Bool) → suits rows (site_of s p) k p ≡ own → meets (get_or rows.partners k 0) (others_than sizes s p) ≡ parted
+          → TrialOf t s k p (cond (own && not parted) (cond (leb added s.traffic) (Some added) None) None)
       go false parted e f = λ keeps. rw e at (keeps_suits keeps)
       go true true e f = λ keeps. keeps_whole keeps (rw f tt)
       go true false e f = network (rw e tt) (λ u. rw f at u) (leb added s.traffic) refl

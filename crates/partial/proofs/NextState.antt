@@ -1,8 +1,9 @@
 -- The state with one task more fits the table, and other laws of states. Assumes nothing.
 use mathlib.Core.Path.{◌≡◌, refl, sym, subst, fun_ext, ◌∙◌}
 use mathlib.Core.Logic.{◌≢◌, ◌⊎◌, inl, inr}
-use mathlib.Core.Bool.{Bool, cond, true, false, ◌&&◌, ◌||◌, and-false, and-true}
+use mathlib.Core.Bool.{Bool, ◌&&◌, ◌||◌, and-false, and-true}
 use mathlib.Core.List.{List}
+use Rattle.std.proofs.Common.{Option, Some, None}
 use Prim.Native.Nat.{ℕ, ◌+◌, ◌-◌, ◌*◌, ◌/◌, ◌≤◌, ◌<◌}
 use native.Mathlib.Omega.{arith}
 use native.Mathlib.Decide.{ℕ_discrete}
@@ -14,16 +15,17 @@ use Rattle.mask.specs.Mask.{has, insert_of, remove_of}
 use Rattle.mask.proofs.Laws.{has_insert, has_remove, remove_not, remove_subset}
 use Rattle.table.specs.declared.Table.{Table}
 use Rattle.rules.specs.Placement.{and_task}
-use Rattle.rules.specs.Rules.{memory_on, load_on, traffic, Keeps}
+use Rattle.rules.specs.Rules.{memory_on, load_on, Keeps}
 use Rattle.rules.specs.Sets.{standing}
 use Rattle.rules.proofs.Step.{step_memory, step_memory_other, step_load, step_load_other}
-use Rattle.rows.specs.Rows.{memory_row, load_row}
 use Rattle.partial.specs.declared.State.{State}
 use Rattle.partial.specs.declared.Sizes.{Sizes}
-use Rattle.partial.specs.Partial.{Lent, Partial, Fits, Stepped, StepOf}
-use Rattle.partial.specs.Tests.{Tried, TrialOf, with_task, Enough}
-use Rattle.partial.proofs.Deciding.{load_at, traffic_with, keeps_memory, keeps_load, keeps_carries}
+use Rattle.partial.specs.Partial.{Lent, Partial, Fits, site_of, Stepped, StepOf}
+use Rattle.partial.specs.Tests.{trial_of, Tried, TrialOf, with_task, Enough, step_after}
+use Rattle.partial.proofs.Deciding.{load_at, traffic_with, keeps_memory, keeps_load, keeps_carries, trial_right}
 use Rattle.partial.proofs.OneMore.{stood, stays, stands, work}
+use Rattle.rows.specs.declared.Rows.{Rows}
+use Rattle.rows.specs.declared.Messages.{Messages}
 
 -- a set of tasks with one more
 pub standing_insert : (sets : List ℕ) (k p : ℕ) → p < length sets → standing (set sets p (insert_of (get_or sets p 0) k)) ≡ and_task (standing sets) k p
@@ -141,20 +143,26 @@ module _ {t : Table} {s : State} (f : Fits t s) (k p : ℕ) (free : T (has s.lef
 
 -- ---- from the answer of a trial, on lent rows
 
-module _ {t : Table} {sizes : Sizes} {rows links : List (List ℕ)} {s : State}
+module _ {t : Table} {sizes : Sizes} {rows : Rows} {links : Messages} {s : State}
     (e : Lent t sizes rows links) (f : Fits t s)
     (k p : ℕ) (free : T (has s.left k)) (low : p < sizes.processors) where
-  enough : {added : ℕ} → Tried t s k p added → Enough s p (get_or (memory_row rows) k 0) (get_or (load_row rows) k 0) added
+  enough : {added : ℕ} → Tried t s k p added → Enough s p (get_or rows.memory k 0) (get_or rows.load k 0) added
   enough w = record {
     enough_memory = keeps_memory e f k p free low w.keeps;
     enough_load = keeps_load e f k p free low w.keeps;
     enough_traffic = omega (arith, traffic_with e f k p free low, keeps_carries e f k p free low w.keeps, w.traffic);
   }
 
-  pub trial_enough : (allowed : Bool) (added : ℕ) → TrialOf t s k p allowed added → T allowed → Enough s p (get_or (memory_row rows) k 0) (get_or (load_row rows) k 0) added
-  trial_enough true added w u = enough w
-  trial_enough false added w u = absurd u
+  module _ {r : Option ℕ} (i : r ≡ trial_of rows links sizes (site_of s p) k p) where
+    right : TrialOf t s k p r
+    right = rw i (trial_right e f k p free low)
 
-  pub trial_step : (allowed : Bool) (added : ℕ) → TrialOf t s k p allowed added → StepOf t s k p allowed (cond allowed (with_task s k p (get_or (memory_row rows) k 0) (get_or (load_row rows) k 0) added) s)
-  trial_step true added w = stepped f k p free (omega (arith, e.processors)) e.sound.processors.most (rw e.same_memory refl) (load_at e f k p free low) (enough w) w
-  trial_step false added w = w
+    pub trial_enough : {added : ℕ} → r ≡ Some added → Enough s p (get_or rows.memory k 0) (get_or rows.load k 0) added
+    trial_enough {added} o = enough (subst (TrialOf t s k p) o right)
+
+    pub trial_step : StepOf t s k p (step_after s k p (get_or rows.memory k 0) (get_or rows.load k 0) r)
+    trial_step = go r right
+      where
+        go : (x : Option ℕ) → TrialOf t s k p x → StepOf t s k p (step_after s k p (get_or rows.memory k 0) (get_or rows.load k 0) x)
+        go None w = w
+        go (Some added) w = stepped f k p free (omega (arith, e.processors)) e.sound.processors.most (rw e.same_memory refl) (load_at e f k p free low) (enough w) w

@@ -1,30 +1,32 @@
 -- A partial placement as the search holds it: the set of tasks on each processor, the open tasks, and what each processor and the network have left.
-use Rattle.std.specs.Prelude.{◌≡◌, Bool, true, false, List, ℕ, ◌+◌, ◌*◌, ◌/◌, ◌<◌, T, length, get_or}
+use Rattle.std.specs.Prelude.{◌≡◌, Option, Some, None, List, ℕ, ◌+◌, ◌*◌, ◌/◌, ◌<◌, T, length, get_or}
 use Rattle.mask.specs.Mask.{has, remove_of}
 use Rattle.table.specs.declared.Table.{Table}
 use Rattle.table.specs.Sound.{Sound}
 use Rattle.rules.specs.Placement.{and_task}
 use Rattle.rules.specs.Rules.{Keeps, memory_on, load_on, traffic}
 use Rattle.rules.specs.Sets.{standing}
-use Rattle.rows.specs.Rows.{loads_of, amounts_of, exclusions_of, partners_of, residence_row, memory_row, load_row, exclusion_row, partner_row, sender_row, receiver_row, amount_row}
+use Rattle.rows.specs.Rows.{loads_of, amounts_of, exclusions_of, partners_of}
 use Rattle.partial.specs.declared.State.{State}
 use Rattle.partial.specs.declared.Sizes.{Sizes}
 use Rattle.partial.specs.declared.Site.{Site}
+use Rattle.rows.specs.declared.Rows.{Rows}
+use Rattle.rows.specs.declared.Messages.{Messages}
 
 -- the table whose rows are lent to the search
-pub record Lent (t : Table) (sizes : Sizes) (rows links : List (List ℕ)) : Type 0 where
+pub record Lent (t : Table) (sizes : Sizes) (rows : Rows) (links : Messages) : Type 0 where
   pub sound : Sound t
   pub tasks : sizes.tasks ≡ t.tasks.count
   pub processors : sizes.processors ≡ t.processors.count
   pub messages : sizes.messages ≡ t.messages.count
-  pub same_residence : residence_row rows ≡ t.tasks.residence
-  pub same_memory : memory_row rows ≡ t.tasks.memory
-  pub same_loads : load_row rows ≡ loads_of t
-  pub same_exclusions : exclusion_row rows ≡ exclusions_of t
-  pub same_partners : partner_row rows ≡ partners_of t
-  pub same_sender : sender_row links ≡ t.messages.sender
-  pub same_receiver : receiver_row links ≡ t.messages.receiver
-  pub same_amounts : amount_row links ≡ amounts_of t
+  pub same_residence : rows.residence ≡ t.tasks.residence
+  pub same_memory : rows.memory ≡ t.tasks.memory
+  pub same_loads : rows.load ≡ loads_of t
+  pub same_exclusions : rows.exclusions ≡ exclusions_of t
+  pub same_partners : rows.partners ≡ partners_of t
+  pub same_sender : links.sender ≡ t.messages.sender
+  pub same_receiver : links.receiver ≡ t.messages.receiver
+  pub same_amounts : links.amount ≡ amounts_of t
 
 -- tasks of the table on its processors, none on two of them
 pub record Partial (t : Table) (sets : List ℕ) : Type 0 where
@@ -61,6 +63,6 @@ pub record Stepped (t : Table) (s : State) (k p : ℕ) (r : State) : Type 0 wher
   pub left : r.left ≡ remove_of s.left k
 
 -- the answer of a step: the rules would be broken, or they are kept and this is the state
-abbrev pub StepOf : Table → State → ℕ → ℕ → Bool → State → Type 0
-StepOf t s k p false next = Keeps t (and_task (standing s.on) k p) → ⊥
-StepOf t s k p true next = Stepped t s k p next
+abbrev pub StepOf : Table → State → ℕ → ℕ → Option State → Type 0
+StepOf t s k p None = Keeps t (and_task (standing s.on) k p) → ⊥
+StepOf t s k p (Some next) = Stepped t s k p next

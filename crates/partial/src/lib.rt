@@ -2,6 +2,7 @@
 #![tactic(auto)]
 
 ghost use Rattle.std.specs.Prelude.{◌≡◌, ◌<◌, ◌≤◌, T};
+ghost use Rattle.std.specs.Option.{is_some};
 ghost use Rattle.mask.specs.Mask.{has};
 ghost use Rattle.table.specs.declared.Table.{Table};
 ghost use Rattle.table.specs.Sound.{Sound};
@@ -12,12 +13,11 @@ ghost use Rattle.rules.specs.Sets.{standing};
 ghost use Rattle.partial.specs.declared.State.{State};
 ghost use Rattle.partial.specs.Partial.{Lent, site_of, Fits, StepOf};
 ghost use Rattle.partial.specs.Start.{start_of};
-ghost use Rattle.partial.specs.Tests.{neither, suits, joins, between, SmallMessages, trial_of, Enough, step_after, step_of};
+ghost use Rattle.partial.specs.Tests.{neither, suits, joins, between, SmallMessages, trial_of, with_task, Enough, step_of};
 
 use numbers::wide;
-use rows::{
-    AMOUNT, EXCLUSIONS, LOAD, MEMORY, Messages, PARTNERS, RECEIVER, RESIDENCE, Rows, SENDER,
-};
+use rows::{Messages, Rows};
+use schedule::Timing;
 use table::Table;
 
 // How many there are of each.
@@ -26,6 +26,15 @@ pub struct Sizes {
     pub tasks: usize,
     pub processors: usize,
     pub messages: usize,
+}
+
+// What is lent to the search of a table, worked out once: the numbers of its tasks and messages, and how many there are of each.
+#[derive(Clone, Copy)]
+pub struct Instance {
+    pub timing: Timing,
+    pub rows: Rows,
+    pub messages: Messages,
+    pub sizes: Sizes,
 }
 
 // The tasks on each processor, the open tasks, those of them that may still stand on each processor, and what is left of each processor's
@@ -50,6 +59,22 @@ pub struct Site {
     pub traffic: u64,
 }
 
+impl State {
+    // Processor p as a task finds it.
+    pub fn site(&self, p: usize) -> Site
+        requires { p < 8 }
+        ensures { result ≡ site_of self.now p }
+    {
+        Site {
+            on: self.on[p],
+            left: self.left,
+            memory: self.memory[p],
+            load: self.load[p],
+            traffic: self.traffic,
+        }
+    }
+}
+
 // The state that a search begins with: nothing is placed yet.
 pub fn start(t: Table) -> State
     requires { Sound t }
@@ -61,11 +86,9 @@ pub fn start(t: Table) -> State
     let h = t.hyperperiod;
     let mut memory = [0u64; 8];
     let mut load = [0u64; 8];
-    let mut p: usize = 0;
-    while p < m {
+    for p in 0..m {
         memory[p] = wide(processors.memory[p]);
         load[p] = wide(processors.limit[p]) * h / 1000;
-        p += 1;
     }
     let all = mask::all_below(tasks.count);
     State {
@@ -91,16 +114,16 @@ fn suits(rows: &Rows, site: Site, k: usize, p: usize) -> bool
     requires { (k < 24) × (p < 32) }
     ensures { result ≡ suits rows.now site k p }
 {
-    if !mask::has(rows[RESIDENCE][k], p) {
+    if !mask::has(rows.residence[k], p) {
         return false;
     }
-    if site.memory < wide(rows[MEMORY][k]) {
+    if site.memory < wide(rows.memory[k]) {
         return false;
     }
-    if site.load < wide(rows[LOAD][k]) {
+    if site.load < wide(rows.load[k]) {
         return false;
     }
-    rows[EXCLUSIONS][k] & site.on == 0
+    rows.exclusions[k] & site.on == 0
 }
 
 // Whether a message goes between task k and one of the others.
@@ -125,126 +148,76 @@ fn between(messages: &Messages, count: usize, k: usize, others: u32) -> u64
     ensures { result ≡ between messages.now count k others }
 {
     let mut sum: u64 = 0;
-    let mut j: usize = 0;
-    while j < count {
-        let from = messages[SENDER][j] as usize;
-        let to = messages[RECEIVER][j] as usize;
+    for j in 0..count {
+        let from = messages.sender[j] as usize;
+        let to = messages.receiver[j] as usize;
         if joins(k, others, from, to) {
-            sum += messages[AMOUNT][j];
+            sum += messages.amount[j];
         }
-        j += 1;
     }
     sum
 }
 
-// Whether the rules allow the task, and what it then adds to the network.
-#[derive(Clone, Copy)]
-struct Trial {
-    allowed: bool,
-    added: u64,
-}
-
-const REFUSED: Trial = Trial {
-    allowed: false,
-    added: 0,
-};
-
-// The open task k on processor p: the cheap tests first.
-fn attempt<'a>(
-    rows: &'a Rows,
-    messages: &'a Messages,
-    sizes: Sizes,
-    site: Site,
-    k: usize,
-    p: usize,
-) -> Trial
-    requires { ((t : Table) × (s : State) × Lent t sizes rows.now messages.now × Fits t s × (site ≡ site_of s p))
-        × T (has site.left k) × (p < sizes.processors) }
-    ensures { result ≡ trial_of rows.now messages.now sizes site k p }
+// What the open task k adds to the network on processor p, where the rules allow it there: the cheap tests first.
+fn attempt(instance: &Instance, site: Site, k: usize, p: usize) -> Option<u64>
+    requires { ((t : Table) × (s : State) × Lent t instance.now.sizes instance.now.rows instance.now.messages × Fits t s × (site ≡ site_of s p))
+        × T (has site.left k) × (p < instance.now.sizes.processors) }
+    ensures { result ≡ trial_of instance.now.rows instance.now.messages instance.now.sizes site k p }
 {
-    if !suits(rows, site, k, p) {
-        return REFUSED;
+    if !suits(&instance.rows, site, k, p) {
+        return None;
     }
-    let others = neither(sizes.tasks, site.left, site.on);
-    if rows[PARTNERS][k] & others != 0 {
-        return REFUSED;
+    let others = neither(instance.sizes.tasks, site.left, site.on);
+    if instance.rows.partners[k] & others != 0 {
+        return None;
     }
-    let added = between(messages, sizes.messages, k, others);
-    Trial {
-        allowed: added <= site.traffic,
-        added,
+    let added = between(&instance.messages, instance.sizes.messages, k, others);
+    if added > site.traffic {
+        return None;
     }
+    Some(added)
 }
 
 // Whether the open task k on processor p keeps the rules.
-pub fn allows<'a>(
-    rows: &'a Rows,
-    messages: &'a Messages,
-    sizes: Sizes,
-    site: Site,
-    k: usize,
-    p: usize,
-) -> bool
-    requires { ((t : Table) × (s : State) × Lent t sizes rows.now messages.now × Fits t s × (site ≡ site_of s p))
-        × T (has site.left k) × (p < sizes.processors) }
-    ensures { (result ≡ (trial_of rows.now messages.now sizes site k p).allowed)
-        × ((t : Table) (s : State) → Lent t sizes rows.now messages.now → Fits t s → site ≡ site_of s p → Says result (Keeps t (and_task (standing s.on) k p))) }
+pub fn allows(instance: &Instance, site: Site, k: usize, p: usize) -> bool
+    requires { ((t : Table) × (s : State) × Lent t instance.now.sizes instance.now.rows instance.now.messages × Fits t s × (site ≡ site_of s p))
+        × T (has site.left k) × (p < instance.now.sizes.processors) }
+    ensures { (result ≡ is_some (trial_of instance.now.rows instance.now.messages instance.now.sizes site k p))
+        × ((t : Table) (s : State) → Lent t instance.now.sizes instance.now.rows instance.now.messages → Fits t s → site ≡ site_of s p → Says result (Keeps t (and_task (standing s.on) k p))) }
 {
-    let trial = attempt(rows, messages, sizes, site, k, p);
-    trial.allowed
+    attempt(instance, site, k, p).is_some()
 }
 
-// Whether the rules allow the task, and the state with it; the state as it was where they do not.
-#[derive(Clone, Copy)]
-pub struct Stepping {
-    pub allowed: bool,
-    pub next: State,
-}
-
-// The step after a trial of task k on processor p, where it takes so much memory and load.
-fn follow(s: State, k: usize, p: usize, memory: u32, load: u32, trial: Trial) -> Stepping
-    requires { (k < 32) × (p < 8) × (T trial.allowed → Enough s p memory load trial.added) }
-    ensures { result ≡ step_after s k p memory load trial }
+// The state with task k on processor p, where it takes so much memory and load, and so much of the network.
+fn follow(s: State, k: usize, p: usize, memory: u32, load: u32, added: u64) -> State
+    requires { (k < 32) × (p < 8) × Enough s p memory load added }
+    ensures { result ≡ with_task s k p memory load added }
 {
-    if !trial.allowed {
-        return Stepping {
-            allowed: false,
-            next: s,
-        };
-    }
     let mut next = s;
     next.on[p] = mask::insert(s.on[p], k);
     next.left = mask::remove(s.left, k);
     next.memory[p] = s.memory[p] - wide(memory);
     next.load[p] = s.load[p] - wide(load);
-    next.traffic = s.traffic - trial.added;
-    Stepping {
-        allowed: true,
-        next,
-    }
+    next.traffic = s.traffic - added;
+    next
 }
 
-// The open task k put on processor p.
-pub fn step<'a>(
-    rows: &'a Rows,
-    messages: &'a Messages,
-    sizes: Sizes,
-    s: State,
-    k: usize,
-    p: usize,
-) -> Stepping
-    requires { ((t : Table) × Lent t sizes rows.now messages.now × Fits t s)
-        × T (has s.left k) × (p < sizes.processors) }
-    ensures { (result ≡ step_of rows.now messages.now sizes s k p)
-        × ((t : Table) → Lent t sizes rows.now messages.now → Fits t s → StepOf t s k p result.allowed result.next) }
+// The state with the open task k on processor p, where the rules allow it there.
+pub fn step(instance: &Instance, s: State, k: usize, p: usize) -> Option<State>
+    requires { ((t : Table) × Lent t instance.now.sizes instance.now.rows instance.now.messages × Fits t s)
+        × T (has s.left k) × (p < instance.now.sizes.processors) }
+    ensures { (result ≡ step_of instance.now.rows instance.now.messages instance.now.sizes s k p)
+        × ((t : Table) → Lent t instance.now.sizes instance.now.rows instance.now.messages → Fits t s → StepOf t s k p result) }
 {
-    let site = Site {
-        on: s.on[p],
-        left: s.left,
-        memory: s.memory[p],
-        load: s.load[p],
-        traffic: s.traffic,
-    };
-    let trial = attempt(rows, messages, sizes, site, k, p);
-    follow(s, k, p, rows[MEMORY][k], rows[LOAD][k], trial)
+    let site = s.site(p);
+    let added = attempt(instance, site, k, p)?;
+    let next = follow(
+        s,
+        k,
+        p,
+        instance.rows.memory[k],
+        instance.rows.load[k],
+        added,
+    );
+    Some(next)
 }

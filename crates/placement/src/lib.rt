@@ -8,29 +8,25 @@ ghost use Rattle.judge.specs.Judge.{judge_of, judgement_number};
 ghost use Rattle.conflict.specs.Count.{late_count_of};
 ghost use Rattle.conflict.specs.Entry.{answer_of};
 ghost use Rattle.task_report.specs.Report as reports;
-ghost use Rattle.placement.specs.Answers.{refused_as, read_as, conflict_as, judged_tasks_as, SearchedAs};
+ghost use Rattle.placement.specs.Answers.{refused_as, read_as, conflict_as, written_as, SearchedAs};
 
-use conflict::Answer;
-use table::Outcome;
-use verdict::Cause;
+use table::Refusal;
 
 // The refusal's number in the upper 32 bits, its place in the lower ones.
-fn refused_as(cause: Cause, place: usize) -> u64
-    requires { place ≤ longest }
-    ensures { result ≡ refused_as cause place }
+fn refused_as(refusal: Refusal) -> u64
+    requires { refusal.place ≤ longest }
+    ensures { result ≡ refused_as refusal }
 {
-    (codes::cause_number(cause) as u64) * 4294967296 + (place as u64)
+    (codes::cause_number(refusal.cause) as u64) * 4294967296 + (refusal.place as u64)
 }
 
 #[unsafe(no_mangle)]
 pub extern "C" fn placement_read(file: &[u8]) -> u64
-    ensures { result ≡ read_as (read_of file.now).outcome }
+    ensures { result ≡ read_as (read_of file.now) }
 {
-    let reading = table::read(file);
-    let outcome = reading.outcome;
-    match outcome {
-        Outcome::Readable => 0,
-        Outcome::Refused(cause, place) => refused_as(cause, place),
+    match table::read(file) {
+        Ok(_) => 0,
+        Err(unread) => refused_as(unread),
     }
 }
 
@@ -38,33 +34,30 @@ pub extern "C" fn placement_read(file: &[u8]) -> u64
 pub extern "C" fn placement_conflict(file: &[u8], mask: u32) -> u64
     ensures { result ≡ conflict_as (answer_of file.now mask) }
 {
-    let answer = conflict::check_conflict(file, mask);
-    match answer {
-        Answer::Refused(cause, place) => refused_as(cause, place),
-        Answer::Found(finding) => codes::finding_number(finding),
+    match conflict::check_conflict(file, mask) {
+        Ok(finding) => codes::finding_number(finding),
+        Err(unchecked) => refused_as(unchecked),
     }
 }
 
 // The buyer's configuration tool: the refusal's number, or 0, or the broken rule's.
 #[unsafe(no_mangle)]
 pub extern "C" fn placement_judge(file: &[u8], placement: &[u8]) -> u16
-    ensures { result ≡ judgement_number (judge_of file.now placement.now).judgement }
+    ensures { result ≡ judgement_number (judge_of file.now placement.now) }
 {
     let judged = judge::judge(file, placement);
-    let judgement = judged.judgement;
-    codes::judgement_number(judgement)
+    codes::judgement_number(judged)
 }
 
-// The judgement, the number concerned and the response of each task, into the lent numbers: how many are written, or the refusal.
+// The judgement, the number concerned, and the response and the margin of each task, into the lent numbers: how many are written, or the refusal.
 #[unsafe(no_mangle)]
 pub extern "C" fn placement_judge_tasks(file: &[u8], placement: &[u8], out: &mut [i32]) -> u64
-    ensures number { result ≡ judged_tasks_as (reports.report_answer file.now placement.now (length out.old)) }
+    ensures number { result ≡ written_as (reports.report_answer file.now placement.now (length out.old)) }
     ensures buffer { out.new ≡ reports.report_buffer file.now placement.now out.old }
 {
-    let answer = task_report::judge_tasks(file, placement, out);
-    match answer {
-        task_report::Answer::Refused(cause, place) => refused_as(cause, place),
-        task_report::Answer::Written(count) => count as u64,
+    match task_report::judge_tasks(file, placement, out) {
+        Ok(numbers) => numbers as u64,
+        Err(unjudged) => refused_as(unjudged),
     }
 }
 
@@ -73,10 +66,9 @@ pub extern "C" fn placement_judge_tasks(file: &[u8], placement: &[u8], out: &mut
 pub extern "C" fn placement_search(file: &[u8], answer: &mut [u8]) -> u64
     ensures { SearchedAs file.now answer.old answer.new result }
 {
-    let searched = search::search(file, answer);
-    match searched {
-        search::Answer::Refused(cause, place) => refused_as(cause, place),
-        search::Answer::Written(count) => count as u64,
+    match search::search(file, answer) {
+        Ok(bytes) => bytes as u64,
+        Err(unsearched) => refused_as(unsearched),
     }
 }
 

@@ -14,12 +14,15 @@ use Rattle.partial.specs.declared.Sizes.{Sizes}
 use Rattle.partial.specs.declared.State.{State}
 use Rattle.partial.specs.Partial.{Partial, Fits}
 use Rattle.region.specs.Lends.{Lends}
+use Rattle.schedule.specs.declared.Timing.{Timing}
+use Rattle.rows.specs.declared.Rows.{Rows}
+use Rattle.rows.specs.declared.Messages.{Messages}
 
 -- the tasks on a processor
 pub set_below : {t : Table} {sets : List ℕ} → Partial t sets → (p : ℕ) → T (below t.tasks.count (get_or sets p 0))
 set_below {t} {sets} w p = has_below t.tasks.count (get_or sets p 0) (λ k. w.task k p)
 
-module _ {t : Table} {sizes : Sizes} {timing rows links : List (List ℕ)} (l : Lends t sizes timing rows links) where
+module _ {t : Table} {sizes : Sizes} {timing : Timing} {rows : Rows} {links : Messages} (l : Lends t sizes timing rows links) where
   pub lent_tasks : tasks_of sizes.tasks timing ≡ tasks_in t
   lent_tasks = rw (l.rules.tasks, l.same_timing) refl
 

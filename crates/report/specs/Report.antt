@@ -1,5 +1,6 @@
 -- The lines of a search answer (01, "The program"). Assumes nothing.
-use Rattle.std.specs.Prelude.{Bool, true, false, List, ◌++◌, ℕ, ◌+◌, ◌-◌, ◌/◌, eqb, length, get_or, take, drop}
+use Rattle.std.specs.Prelude.{Bool, true, false, Ok, List, ◌++◌, ℕ, ◌+◌, ◌-◌, ◌/◌, eqb, length, get_or, take, drop, replicate}
+use Rattle.std.specs.Result.{result_unwrap_or}
 use Rattle.wire.specs.Wire.{mark_at, pieces}
 use Rattle.table.specs.declared.Table.{Table}
 use Rattle.load.specs.Nearest.{nearest}
@@ -12,6 +13,10 @@ use Rattle.text.specs.Text.{ascii}
 use Rattle.lines.specs.declared.Stand.{Stand}
 use Rattle.lines.specs.Lines.{task_line, load_line, conflict_line}
 
+-- what is printed of a placement that is refused: no response, and no margin, as if there were no task
+abbrev pub nothing : Judged
+nothing = record { check = Ok tt; responses = replicate 24 0; margins = replicate 24 known_zero }
+
 -- where task k stands, and how it fares there by the judgement
 abbrev pub stand_of : List ℕ → Judged → List ℕ → ℕ → Stand
 stand_of q j deadlines k = record {
@@ -19,7 +24,7 @@ stand_of q j deadlines k = record {
   processor = get_or q k 0;
   response = get_or j.responses k 0;
   deadline = get_or deadlines k 0;
-  margin = (get_or j.margins k known_zero).margin;
+  margin = get_or j.margins k known_zero;
 }
 
 -- 01: task lines give task, processor, response and deadline; 02: and the margin
@@ -36,7 +41,7 @@ load_lines t q = pieces t.processors.count (λ p. load_line p (thousandths t q p
 
 -- the lines of a placement; the responses and the margins are those of its judgement
 abbrev pub placement_lines : List ℕ → Table → List ℕ → List ℕ
-placement_lines file t q = task_lines q (judge_of file q) t.tasks.d ++ load_lines t q
+placement_lines file t q = task_lines q (result_unwrap_or (judge_of file q) nothing) t.tasks.d ++ load_lines t q
 
 -- 01: with no placement the first line is `none` and task and load lines are absent
 abbrev pub head_lines : Bool → List ℕ → Table → List ℕ → List ℕ

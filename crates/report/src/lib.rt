@@ -21,6 +21,13 @@ const COMPLETE: [u8; 9] = *b"complete\n";
 
 const CUT: [u8; 4] = *b"cut\n";
 
+// What is printed of a placement that is not judged: no response, and a known 0 for each margin, as if there were no task.
+const NOTHING: Judged = Judged {
+    check: Ok(()),
+    responses: [0; 24],
+    margins: [Some(0); 24],
+};
+
 // The lines of the tasks.
 fn put_tasks<'a>(
     text: &mut [u8],
@@ -32,22 +39,16 @@ fn put_tasks<'a>(
     requires { (at + 4608 ≤ length text.old) × (length placement.now ≤ 24) }
     ensures { Put text.old at (task_lines placement.now judged deadlines.now) text.new result × (result ≤ at + 4608) }
 {
-    let responses = judged.responses;
-    let margins = judged.margins;
     let mut end = at;
-    let mut k: usize = 0;
-    while k < placement.len() {
-        let beside = margins[k];
-        let margin = beside.margin;
+    for (k, processor) in placement.iter().enumerate() {
         let stand = Stand {
             task: k,
-            processor: placement[k],
-            response: responses[k],
+            processor: *processor,
+            response: judged.responses[k],
             deadline: deadlines[k],
-            margin,
+            margin: judged.margins[k],
         };
         end = lines::task_line(text, end, stand);
-        k += 1;
     }
     end
 }
@@ -59,12 +60,10 @@ fn load_on(table: Table, placement: &[u8], p: usize) -> Load
 {
     let tasks = table.tasks;
     let mut load = Load::IDLE;
-    let mut k: usize = 0;
-    while k < placement.len() {
-        if placement[k] as usize == p {
+    for (k, byte) in placement.iter().enumerate() {
+        if usize::from(*byte) == p {
             load = load.with_task(tasks.c[k], tasks.t[k], table.hyperperiod);
         }
-        k += 1;
     }
     load
 }
@@ -74,13 +73,10 @@ fn put_loads(text: &mut [u8], at: usize, table: Table, placement: &[u8]) -> usiz
     requires { (at + 1024 ≤ length text.old) × Sound table × (length placement.now ≡ table.tasks.count) }
     ensures { Put text.old at (load_lines table placement.now) text.new result × (result ≤ at + 1024) }
 {
-    let processors = table.processors;
     let mut end = at;
-    let mut p: usize = 0;
-    while p < processors.count {
+    for p in 0..table.processors.count {
         let load = load_on(table, placement, p);
         end = lines::load_line(text, end, p, load.thousandths(table.hyperperiod));
-        p += 1;
     }
     end
 }
@@ -90,10 +86,8 @@ fn put_placement(text: &mut [u8], at: usize, file: &[u8], table: Table, placemen
     requires { (at + 5632 ≤ length text.old) × Sound table × (length placement.now ≡ table.tasks.count) }
     ensures { Put text.old at (placement_lines file.now table placement.now) text.new result × (result ≤ at + 5632) }
 {
-    let judged = judge::judge(file, placement);
-    let tasks = table.tasks;
-    let deadlines = tasks.d;
-    let end = put_tasks(text, at, placement, judged, &deadlines);
+    let judged = judge::judge(file, placement).unwrap_or(NOTHING);
+    let end = put_tasks(text, at, placement, judged, &table.tasks.d);
     put_loads(text, end, table, placement)
 }
 
@@ -115,10 +109,8 @@ fn put_conflicts(text: &mut [u8], at: usize, n: usize, list: &[u8], count: usize
     ensures { Put text.old at (conflict_lines n list.now count) text.new result × (result ≤ at + 128 * count) }
 {
     let mut end = at;
-    let mut j: usize = 0;
-    while j < count {
+    for j in 0..count {
         end = lines::conflict_line(text, end, n, answer::mask_at(list, j));
-        j += 1;
     }
     end
 }
@@ -145,8 +137,7 @@ pub fn put_answer(
     requires { Sound table × (table.tasks.count + 5 ≤ count) × (count ≤ 16384) }
     ensures { Put text.old 0 (answer_lines file.now table answer.now count) text.new result }
 {
-    let tasks = table.tasks;
-    let n = tasks.count;
+    let n = table.tasks.count;
     let bytes = &answer[..];
     let found = wire::has_mark(bytes, 0, b"AL");
     let head = put_head(text, file, table, found, &bytes[2..n + 2]);

@@ -1,11 +1,15 @@
 -- What is lent to the search of a table, worked out once: rows of numbers, a place for each task or message.
-use Rattle.std.specs.Prelude.{not, ◌&&◌, List, [], ◌∷◌, ℕ, ◌+◌, ◌*◌, ◌/◌, eqb, get_or, replicate}
+use Rattle.std.specs.Prelude.{not, ◌&&◌, List, ℕ, ◌*◌, ◌/◌, eqb, get_or, replicate}
 use Rattle.finite.specs.Finite.{some_below}
 use Rattle.mask.specs.Mask.{has, mask_of}
 use Rattle.table.specs.declared.Table.{Table}
 use Rattle.table.specs.declared.Groups.{Groups}
 use Rattle.table.specs.Table.{column}
 use Rattle.rules.specs.Rules.{amount_of}
+use Rattle.rows.specs.declared.Rows.{Rows}
+use Rattle.rows.specs.declared.Measure.{Measure}
+use Rattle.rows.specs.declared.Measure.TheVariants.{Load, Memory, Both, Other}
+use Rattle.rows.specs.declared.Messages.{Messages}
 
 -- 01: the work of each task in one hyperperiod, C × H / T
 unfoldable pub loads_of : Table → List ℕ
@@ -34,37 +38,25 @@ abbrev pub unfilled : List ℕ
 unfilled = replicate 24 0
 
 -- the rows of the tasks, those of the response calculation apart
-abbrev pub rows_of : Table → List (List ℕ)
-rows_of t = t.tasks.residence ∷ loads_of t ∷ t.tasks.memory ∷ unfilled ∷ exclusions_of t ∷ partners_of t ∷ unfilled ∷ unfilled ∷ []
+abbrev pub rows_of : Table → Rows
+rows_of t = record {
+  residence = t.tasks.residence;
+  load = loads_of t;
+  memory = t.tasks.memory;
+  weight = unfilled;
+  exclusions = exclusions_of t;
+  partners = partners_of t;
+  order = unfilled;
+  base = unfilled;
+}
 
-abbrev pub residence_row : List (List ℕ) → List ℕ
-residence_row rows = get_or rows 0 []
-
-abbrev pub load_row : List (List ℕ) → List ℕ
-load_row rows = get_or rows 1 []
-
-abbrev pub memory_row : List (List ℕ) → List ℕ
-memory_row rows = get_or rows 2 []
-
-abbrev pub exclusion_row : List (List ℕ) → List ℕ
-exclusion_row rows = get_or rows 4 []
-
-abbrev pub partner_row : List (List ℕ) → List ℕ
-partner_row rows = get_or rows 5 []
-
--- the weights of the tasks: 0 by load, 1 by memory, 2 by both
-abbrev pub weights_in : List (List ℕ) → ℕ → List ℕ
-weights_in rows w = get_or rows (1 + w) []
+-- the weights of the tasks in the rows: by load, by memory, else by both
+abbrev pub weights_in : Rows → Measure → List ℕ
+weights_in rows Load = rows.load
+weights_in rows Memory = rows.memory
+weights_in rows Both = rows.weight
+weights_in rows Other = rows.weight
 
 -- the rows of the messages
-abbrev pub messages_of : Table → List (List ℕ)
-messages_of t = t.messages.sender ∷ t.messages.receiver ∷ amounts_of t ∷ []
-
-abbrev pub sender_row : List (List ℕ) → List ℕ
-sender_row rows = get_or rows 0 []
-
-abbrev pub receiver_row : List (List ℕ) → List ℕ
-receiver_row rows = get_or rows 1 []
-
-abbrev pub amount_row : List (List ℕ) → List ℕ
-amount_row rows = get_or rows 2 []
+abbrev pub messages_of : Table → Messages
+messages_of t = record { sender = t.messages.sender; receiver = t.messages.receiver; amount = amounts_of t }

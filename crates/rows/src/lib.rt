@@ -2,7 +2,7 @@
 // rows of numbers, a place for each task or message.
 #![tactic(auto)]
 
-ghost use Rattle.std.specs.Prelude.{◌≡◌, ◌*◌, ◌/◌, ◌≤◌, ◌<◌, ltb, length, get_or};
+ghost use Rattle.std.specs.Prelude.{◌≡◌, ◌*◌, ◌/◌, ◌≤◌, ◌<◌, ltb, get_or};
 ghost use Rattle.finite.specs.Finite.{only};
 ghost use Rattle.table.specs.Sound.{Sound, SoundGroups};
 ghost use Rattle.rules.specs.Rules.{amount_of};
@@ -12,33 +12,35 @@ use load::Load;
 use numbers::wide;
 use table::{Groups, Table};
 
-// The rows of the tasks. WEIGHT, ORDER and BASE guide the search; of these nothing is claimed but that they are rows.
-pub type Rows = [[u32; 24]; 8];
+// The rows of the tasks. The weight, the order and the base guide the search; of these nothing is claimed but that they are rows.
+#[derive(Clone, Copy)]
+pub struct Rows {
+    pub residence: [u32; 24],
+    pub load: [u32; 24],
+    pub memory: [u32; 24],
+    pub weight: [u32; 24],
+    pub exclusions: [u32; 24],
+    pub partners: [u32; 24],
+    pub order: [u32; 24],
+    pub base: [u32; 24],
+}
 
-pub const RESIDENCE: usize = 0;
-
-pub const LOAD: usize = 1;
-
-pub const MEMORY: usize = 2;
-
-pub const WEIGHT: usize = 3;
-
-pub const EXCLUSIONS: usize = 4;
-
-pub const PARTNERS: usize = 5;
-
-pub const ORDER: usize = 6;
-
-pub const BASE: usize = 7;
+// What the weights of the tasks are: their load, their memory, both, or any others.
+#[derive(Clone, Copy, PartialEq, Eq)]
+pub enum Measure {
+    Load,
+    Memory,
+    Both,
+    Other,
+}
 
 // The rows of the messages.
-pub type Messages = [[u64; 64]; 3];
-
-pub const SENDER: usize = 0;
-
-pub const RECEIVER: usize = 1;
-
-pub const AMOUNT: usize = 2;
+#[derive(Clone, Copy)]
+pub struct Messages {
+    pub sender: [u32; 64],
+    pub receiver: [u32; 64],
+    pub amount: [u64; 64],
+}
 
 // The load of task k, 0 beyond the tasks.
 fn load_at(t: Table, k: usize) -> u32
@@ -59,11 +61,9 @@ fn loads_of(t: Table) -> [u32; 24]
     ensures { result ≡ loads_of t }
 {
     let mut loads = [0u32; 24];
-    let mut k: usize = 0;
-    while k < 24 {
+    for k in 0..24 {
         let load = load_at(t, k);
         loads[k] = load;
-        k += 1;
     }
     loads
 }
@@ -78,13 +78,11 @@ fn beside(groups: Groups, n: usize, k: usize) -> u32
     }
     let count = groups.count;
     let mut set: u32 = 0;
-    let mut g: usize = 0;
-    while g < count {
+    for g in 0..count {
         let group = groups.mask[g];
         if mask::has(group, k) {
             set |= group;
         }
-        g += 1;
     }
     mask::remove(set, k)
 }
@@ -95,11 +93,9 @@ fn neighbours_of(groups: Groups, n: usize) -> [u32; 24]
     ensures { result ≡ neighbours_of groups n }
 {
     let mut neighbours = [0u32; 24];
-    let mut k: usize = 0;
-    while k < 24 {
+    for k in 0..24 {
         let set = beside(groups, n, k);
         neighbours[k] = set;
-        k += 1;
     }
     neighbours
 }
@@ -124,28 +120,11 @@ fn amounts_of(t: Table) -> [u64; 64]
     ensures { result ≡ amounts_of t }
 {
     let mut amounts = [0u64; 64];
-    let mut j: usize = 0;
-    while j < 64 {
+    for j in 0..64 {
         let amount = amount_at(t, j);
         amounts[j] = amount;
-        j += 1;
     }
     amounts
-}
-
-// The same numbers, each wider: the rows of the messages have one width.
-fn widened(row: [u32; 64]) -> [u64; 64]
-    requires { length row ≡ 64 }
-    ensures { result ≡ row }
-{
-    let mut wider = [0u64; 64];
-    let mut j: usize = 0;
-    while j < 64 {
-        let x = wide(row[j]);
-        wider[j] = x;
-        j += 1;
-    }
-    wider
 }
 
 // The rows of the tasks; those that guide the search are still to be filled.
@@ -156,14 +135,20 @@ pub fn rows_of(t: Table) -> Rows
     let tasks = t.tasks;
     let n = tasks.count;
     let residence = tasks.residence;
+    let load = loads_of(t);
     let memory = tasks.memory;
-    let loads = loads_of(t);
     let exclusions = neighbours_of(t.ex, n);
     let partners = neighbours_of(t.co, n);
-    let unfilled = [0u32; 24];
-    [
-        residence, loads, memory, unfilled, exclusions, partners, unfilled, unfilled,
-    ]
+    Rows {
+        residence,
+        load,
+        memory,
+        weight: [0; 24],
+        exclusions,
+        partners,
+        order: [0; 24],
+        base: [0; 24],
+    }
 }
 
 // The rows of the messages.
@@ -172,10 +157,12 @@ pub fn messages_of(t: Table) -> Messages
     ensures { result ≡ messages_of t }
 {
     let messages = t.messages;
-    let senders = messages.sender;
-    let receivers = messages.receiver;
-    let sender = widened(senders);
-    let receiver = widened(receivers);
-    let amounts = amounts_of(t);
-    [sender, receiver, amounts]
+    let sender = messages.sender;
+    let receiver = messages.receiver;
+    let amount = amounts_of(t);
+    Messages {
+        sender,
+        receiver,
+        amount,
+    }
 }

@@ -6,14 +6,14 @@ use native.Mathlib.Omega.{arith}
 use native.Mathlib.Decide.{ℕ_discrete, dec_lt}
 use borrow.Author.Tests.{lt-ltb, le-ltb}
 use lib.Dec.{T, eqb}
+use Rattle.std.specs.Prelude.{Ok, Err}
+use Rattle.std.specs.Result.{result_and}
 use Rattle.finite.specs.Finite.{first_below}
 use Rattle.finite.proofs.Search.{FirstBelow, first_below_lem, lowest, nowhere, lowest_same}
 use Rattle.table.specs.declared.Table.{Table}
 use Rattle.rules.specs.declared.Rule.{Rule}
 use Rattle.rules.specs.declared.Rule.TheVariants.{Residence, CoResidence, Exclusion, Memory, Utilisation, Network, Deadline}
-use Rattle.rules.specs.declared.Check.{Check}
-use Rattle.rules.specs.declared.Check.TheVariants.{Kept, Broken}
-use Rattle.rules.specs.Rules.{rule_number, concerned, broken, broken_at, check_rule, first_broken, Keeps}
+use Rattle.rules.specs.Rules.{rule_number, concerned, broken, Check, broken_with, broken_at, check_rule, first_broken, Keeps}
 
 -- ---- a rule and its number
 
@@ -63,12 +63,17 @@ pub record BrokenFirst (t : Table) (on : ℕ → ℕ → Bool) (late : ℕ → B
 
 -- what a check of the rules numbered from `low` on finds
 pub data Finds (t : Table) (on : ℕ → ℕ → Bool) (late : ℕ → Bool) (low : ℕ) : Check → Type 0 where
-  none : ((s : Rule) → low ≤ rule_number s → NotBroken t on late s) → Finds t on late low Kept
-  one : {r : Rule} {k : ℕ} → BrokenFirst t on late low r k → Finds t on late low (Broken r k)
+  none : ((s : Rule) → low ≤ rule_number s → NotBroken t on late s) → Finds t on late low (Ok tt)
+  one : {r : Rule} {k : ℕ} → BrokenFirst t on late low r k → Finds t on late low (broken_with r k)
+
+-- a check with none behind it
+alone : (c : Check) → result_and c (Ok tt) ≡ c
+alone (Ok x) = refl
+alone (Err b) = refl
 
 module _ (t : Table) (on : ℕ → ℕ → Bool) (late : ℕ → Bool) where
   -- one rule more, in front of the others
-  finds_more : (r : Rule) (next : Check) → Finds t on late (suc (rule_number r)) next → Finds t on late (rule_number r) (check_rule t on late r next)
+  finds_more : (r : Rule) (next : Check) → Finds t on late (suc (rule_number r)) next → Finds t on late (rule_number r) (result_and (check_rule t on late r) next)
   unfolding check_rule
   finds_more r next found = go (first_below_lem (concerned t r) (broken t on late r))
     where
@@ -92,7 +97,7 @@ module _ (t : Table) (on : ℕ → ℕ → Bool) (late : ℕ → Bool) where
       })
 
       go : FirstBelow (concerned t r) (broken t on late r) (first_below (concerned t r) (broken t on late r))
-          → Finds t on late low (broken_at r (concerned t r) (first_below (concerned t r) (broken t on late r)) next)
+          → Finds t on late low (result_and (broken_at r (concerned t r) (first_below (concerned t r) (broken t on late r))) next)
       go (lowest l u h) = rw (lt-ltb _ _ l) (one {r = r} (record { within = l; breaks = u; least = h; earlier = λ s a b. absurd (omega arith) }))
       go (nowhere e h) = rw (e, le-ltb (concerned t r) (concerned t r) (omega arith)) (behind h found)
 
@@ -106,7 +111,7 @@ module _ (t : Table) (on : ℕ → ℕ → Bool) (late : ℕ → Bool) where
       (finds_more Memory _
       (finds_more Utilisation _
       (finds_more Network _
-      (finds_more Deadline _ (none (λ s l. absurd (omega (arith, numbers s))))))))))
+      (subst (Finds t on late 107) (alone (check_rule t on late Deadline)) (finds_more Deadline (Ok tt) (none (λ s l. absurd (omega (arith, numbers s)))))))))))
 
   -- ---- the placement rules
 
@@ -129,27 +134,27 @@ module _ (t : Table) (on : ℕ → ℕ → Bool) (late : ℕ → Bool) where
   of_keeps k d Network = λ j l. k.network
   of_keeps k d Deadline = d
 
-  pub kept_keeps : first_broken t on late ≡ Kept → Keeps t on × NotBroken t on late Deadline
+  pub kept_keeps : first_broken t on late ≡ Ok tt → Keeps t on × NotBroken t on late Deadline
   kept_keeps e = go first_broken_lem e
     where
-      go : {c : Check} → Finds t on late 101 c → c ≡ Kept → Keeps t on × NotBroken t on late Deadline
+      go : {c : Check} → Finds t on late 101 c → c ≡ Ok tt → Keeps t on × NotBroken t on late Deadline
       go (none f) e = (keeps_of (λ s l. f s (numbers s).0), f Deadline (omega arith))
       go (one w) e = absurd (let z : ◌≡◌ {A = ℕ} 0 1 = cc in omega arith)
 
-  pub keeps_kept : Keeps t on → NotBroken t on late Deadline → first_broken t on late ≡ Kept
+  pub keeps_kept : Keeps t on → NotBroken t on late Deadline → first_broken t on late ≡ Ok tt
   keeps_kept k d = go first_broken_lem
     where
-      go : {c : Check} → Finds t on late 101 c → c ≡ Kept
+      go : {c : Check} → Finds t on late 101 c → c ≡ Ok tt
       go (none f) = refl
       go (one {r = r} {k = j} w) = absurd (of_keeps k d r j w.within w.breaks)
 
   -- only one rule is broken first, and at one number
-  pub broken_first : {r : Rule} {k : ℕ} → BrokenFirst t on late 101 r k → first_broken t on late ≡ Broken r k
+  pub broken_first : {r : Rule} {k : ℕ} → BrokenFirst t on late 101 r k → first_broken t on late ≡ broken_with r k
   broken_first {r} {k} w = go first_broken_lem
     where
-      go : {c : Check} → Finds t on late 101 c → c ≡ Broken r k
+      go : {c : Check} → Finds t on late 101 c → c ≡ broken_with r k
       go (none f) = absurd (f r (numbers r).0 k w.within w.breaks)
-      go (one {r = s} {k = j} v) = let u = subst (λ (x : Rule). BrokenFirst t on late 101 x j) rule v in ap₂ Broken rule (lowest_same (λ i. T (broken t on late r i)) u.breaks u.least w.breaks w.least)
+      go (one {r = s} {k = j} v) = let u = subst (λ (x : Rule). BrokenFirst t on late 101 x j) rule v in ap₂ broken_with rule (lowest_same (λ i. T (broken t on late r i)) u.breaks u.least w.breaks w.least)
         where
           pick : Dec (rule_number s < rule_number r) → Dec (rule_number r < rule_number s) → rule_number s ≡ rule_number r
           pick (yes l) d = absurd (w.earlier s (numbers s).0 l j v.within v.breaks)

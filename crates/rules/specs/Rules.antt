@@ -1,12 +1,12 @@
 -- The rules of 01, "Judging a placement", of a placement `on`: for each, what its number concerns and how it is broken; and their order.
-use Rattle.std.specs.Prelude.{Bool, not, ◌&&◌, ◌||◌, cond, ℕ, ◌*◌, ◌/◌, ◌<◌, T, ltb, eqb, get_or}
+use Rattle.std.specs.Prelude.{Bool, not, ◌&&◌, ◌||◌, cond, Result, Ok, Err, ℕ, ◌*◌, ◌/◌, ◌<◌, T, ltb, eqb, get_or}
+use Rattle.std.specs.Result.{result_and}
 use Rattle.finite.specs.Finite.{only, sum_to, some_below, first_below}
 use Rattle.mask.specs.Mask.{has}
 use Rattle.table.specs.declared.Table.{Table}
 use Rattle.rules.specs.declared.Rule.{Rule}
 use Rattle.rules.specs.declared.Rule.TheVariants.{Residence, CoResidence, Exclusion, Memory, Utilisation, Network, Deadline}
-use Rattle.rules.specs.declared.Check.{Check}
-use Rattle.rules.specs.declared.Check.TheVariants.{Kept, Broken}
+use Rattle.rules.specs.declared.Broken.{Broken}
 use Rattle.rules.specs.Placement.{elsewhere, apart, together, some_pair}
 
 -- 01: 101 residence (task): its processor isn't in its mask
@@ -96,21 +96,28 @@ broken t on late Utilisation k = utilisation_broken t on k
 broken t on late Network k = network_broken t on
 broken t on late Deadline k = late k
 
--- broken with the number k, the lowest concerned; where that is beyond the n numbers the next rules decide
-abbrev pub broken_at : Rule → ℕ → ℕ → Check → Check
-broken_at rule n k next = cond (ltb k n) (Broken rule k) next
+-- what a check finds: nothing, or the first broken rule with the lowest number concerned
+abbrev pub Check : Type 0
+Check = Result (Unit {0}) Broken
 
-unfoldable pub check_rule : Table → (ℕ → ℕ → Bool) → (ℕ → Bool) → Rule → Check → Check
-check_rule t on late rule next = broken_at rule (concerned t rule) (first_below (concerned t rule) (broken t on late rule)) next
+-- the rule is broken first, with the number k
+abbrev pub broken_with : Rule → ℕ → Check
+broken_with rule k = Err (record { rule = rule; number = k })
 
--- 01: the first broken rule with the lowest number concerned
+-- broken with the number k, the lowest concerned; where that is beyond the n numbers the rule is kept
+abbrev pub broken_at : Rule → ℕ → ℕ → Check
+broken_at rule n k = cond (ltb k n) (broken_with rule k) (Ok tt)
+
+unfoldable pub check_rule : Table → (ℕ → ℕ → Bool) → (ℕ → Bool) → Rule → Check
+check_rule t on late rule = broken_at rule (concerned t rule) (first_below (concerned t rule) (broken t on late rule))
+
+-- 01: the first broken rule with the lowest number concerned; where a rule is kept the next rules decide
 unfoldable pub first_broken : Table → (ℕ → ℕ → Bool) → (ℕ → Bool) → Check
 first_broken t on late =
-    check_rule t on late Residence
-    (check_rule t on late CoResidence
-    (check_rule t on late Exclusion
-    (check_rule t on late Memory
-    (check_rule t on late Utilisation
-    (check_rule t on late Network
-    (check_rule t on late Deadline
-    Kept))))))
+    result_and (check_rule t on late Residence)
+    (result_and (check_rule t on late CoResidence)
+    (result_and (check_rule t on late Exclusion)
+    (result_and (check_rule t on late Memory)
+    (result_and (check_rule t on late Utilisation)
+    (result_and (check_rule t on late Network)
+    (check_rule t on late Deadline))))))

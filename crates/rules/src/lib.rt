@@ -16,11 +16,11 @@ pub enum Rule {
     Deadline,
 }
 
-// No rule is broken, or the first that is, with the lowest number concerned.
+// The first broken rule, with the lowest number concerned.
 #[derive(Clone, Copy)]
-pub enum Check {
-    Kept,
-    Broken(Rule, usize),
+pub struct Broken {
+    pub rule: Rule,
+    pub number: usize,
 }
 
 // The tasks of a placement on each processor.
@@ -29,11 +29,9 @@ pub fn sets_of(placement: &[u8]) -> [u32; 8]
     ensures { result ≡ sets_of placement.now }
 {
     let mut sets = [0u32; 8];
-    let mut k: usize = 0;
-    while k < placement.len() {
-        let p = placement[k] as usize;
+    for (k, byte) in placement.iter().enumerate() {
+        let p = usize::from(*byte);
         sets[p] = mask::insert(sets[p], k);
-        k += 1;
     }
     sets
 }
@@ -43,12 +41,10 @@ fn processor_of(sets: [u32; 8], m: usize, k: usize) -> u8
     requires { (m ≤ 8) × (k < 32) }
     ensures { result ≡ processor_of sets m k }
 {
-    let mut p: usize = 0;
-    while p < m {
+    for p in 0..m {
         if mask::has(sets[p], k) {
             return p as u8;
         }
-        p += 1;
     }
     m as u8
 }
@@ -59,10 +55,8 @@ pub fn placement_of(sets: [u32; 8], n: usize, m: usize) -> [u8; 24]
     ensures { result ≡ processors_of sets n m }
 {
     let mut bytes = [0u8; 24];
-    let mut k: usize = 0;
-    while k < n {
+    for k in 0..n {
         bytes[k] = processor_of(sets, m, k);
-        k += 1;
     }
     bytes
 }

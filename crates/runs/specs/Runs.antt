@@ -1,15 +1,14 @@
 -- The runs of a decision: what is kept of the heuristics for a replay, and how many steps each run may take. No answer rests on them.
-use Rattle.std.specs.Prelude.{Bool, ◌&&◌, cond, List, [], ℕ, ◌+◌, ◌*◌, ◌/◌, ◌%◌, eqb, ltb, get_or, set}
-use mir.Val.{bool_byte}
-use Rattle.heuristics.specs.Heuristics.{failures, numbers, fuel, weighted, kept, with}
+use Rattle.std.specs.Prelude.{Bool, ◌&&◌, cond, ℕ, ◌*◌, ◌/◌, ◌%◌, eqb, ltb}
+use Rattle.heuristics.specs.declared.Heuristics.{Heuristics}
 
--- the heuristics with a copy of the failure weights and the numbers
-unfoldable pub kept_of : List (List ℕ) → List (List ℕ)
-kept_of heuristics = set (set heuristics (kept + failures) (get_or heuristics failures [])) (kept + numbers) (get_or heuristics numbers [])
+-- the heuristics with a copy of what guides the run
+abbrev pub kept_of : Heuristics → Heuristics
+kept_of heuristics = record heuristics { kept = heuristics.guide }
 
 -- and with the copy brought back
-unfoldable pub brought_back_of : List (List ℕ) → List (List ℕ)
-brought_back_of heuristics = set (set heuristics failures (get_or heuristics (kept + failures) [])) numbers (get_or heuristics (kept + numbers) [])
+abbrev pub brought_back_of : Heuristics → Heuristics
+brought_back_of heuristics = record heuristics { guide = heuristics.kept }
 
 -- the weights of the bound adapt in every second run from the third on
 abbrev pub is_weighted : ℕ → Bool
@@ -19,6 +18,6 @@ is_weighted run = ltb 1 run && eqb (run % 2) 0
 unfoldable pub share_of : ℕ → ℕ → ℕ
 share_of steps run = cond (is_weighted run) (steps / 2) (cond (ltb run 2) steps (4 * steps))
 
--- the numbers that a run begins with
-unfoldable pub run_of : List (List ℕ) → ℕ → ℕ → List (List ℕ)
-run_of heuristics steps run = with (with heuristics numbers fuel (share_of steps run)) numbers weighted (bool_byte (is_weighted run))
+-- what a run begins with
+abbrev pub run_of : Heuristics → ℕ → ℕ → Heuristics
+run_of heuristics steps run = record heuristics { guide = record heuristics.guide { fuel = share_of steps run; weighted = is_weighted run } }

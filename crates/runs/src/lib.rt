@@ -4,23 +4,21 @@
 ghost use Rattle.std.specs.Prelude.{◌≡◌, ◌≤◌};
 ghost use Rattle.runs.specs.Runs.{kept_of, brought_back_of, is_weighted, share_of, run_of};
 
-use heuristics::{FAILURES, FUEL, Heuristics, KEPT, NUMBERS, WEIGHTED};
+use heuristics::Heuristics;
 
-// The failure weights and the numbers that a run begins with are kept.
+// What guides a run is kept as the run begins.
 pub fn keep(heuristics: &mut Heuristics)
     ensures { heuristics.new ≡ kept_of heuristics.old }
 {
-    heuristics[KEPT + FAILURES] = heuristics[FAILURES];
-    heuristics[KEPT + NUMBERS] = heuristics[NUMBERS];
+    heuristics.kept = heuristics.guide;
 }
 
-// They are brought back, so that the run can be replayed. The weights of the bound need not be: the run left those that it began with, and makes the
+// It is brought back, so that the run can be replayed. The weights of the bound need not be: the run left those that it began with, and makes the
 // others anew from them.
 pub fn bring_back(heuristics: &mut Heuristics)
     ensures { heuristics.new ≡ brought_back_of heuristics.old }
 {
-    heuristics[FAILURES] = heuristics[KEPT + FAILURES];
-    heuristics[NUMBERS] = heuristics[KEPT + NUMBERS];
+    heuristics.guide = heuristics.kept;
 }
 
 // Whether the weights of the bound adapt in a run: not in the first two, then in every second one.
@@ -49,6 +47,6 @@ pub fn begin_run(heuristics: &mut Heuristics, fuel: u32, run: u32)
     requires { fuel ≤ 1500000 }
     ensures { heuristics.new ≡ run_of heuristics.old fuel run }
 {
-    heuristics[NUMBERS][FUEL] = share(fuel, run);
-    heuristics[NUMBERS][WEIGHTED] = is_weighted(run) as u32;
+    heuristics.guide.fuel = share(fuel, run);
+    heuristics.guide.weighted = is_weighted(run);
 }

@@ -9,7 +9,7 @@ use lib.Dec.{ltb}
 use lib.IntN.{ℤ, pos, negsuc, ◌-ℤ◌}
 use mir.Syntax.{w32}
 use mir.Val.{SFits}
-use Rattle.schedule.specs.declared.Margin.TheVariants.{Known, Beyond}
+use Rattle.std.specs.Prelude.{Some, None}
 use Rattle.schedule.specs.Response.{Least, up_to}
 use Rattle.schedule.specs.Margin.{margin_by, MarginIs, known, beyond}
 
@@ -23,11 +23,11 @@ difference_fits x (suc m) a b = go (ltb x (suc m))
     go false = record { sfits = omega arith }
 
 -- the mark, or the difference, by whether there is a worst response
-pub margin_beyond : (d : ℕ) {w : ℕ} → w ≡ 0 → Beyond ≡ margin_by d w
+pub margin_beyond : (d : ℕ) {w : ℕ} → w ≡ 0 → None ≡ margin_by d w
 margin_beyond d {w = zero} e = refl
 margin_beyond d {w = suc w} e = absurd (omega arith)
 
-pub margin_known : (d : ℕ) {w : ℕ} {m : ℤ} → (w ≡ 0 → ⊥) → m ≡ pos d -ℤ pos w → Known m ≡ margin_by d w
+pub margin_known : (d : ℕ) {w : ℕ} {m : ℤ} → (w ≡ 0 → ⊥) → m ≡ pos d -ℤ pos w → Some m ≡ margin_by d w
 margin_known d {w = zero} n e = absurd (n refl)
 margin_known d {w = suc w} n e = rw e refl
 
@@ -37,10 +37,10 @@ margin_is d {w = zero} l = beyond l
 margin_is d {w = suc w} l = known (suc w) (omega arith) l
 
 -- a response within the deadline leaves a margin that is known and not below zero
-pub margin_in_time : (d w : ℕ) → 0 < up_to d w → (x : ℕ) × (margin_by d w ≡ Known (pos x))
+pub margin_in_time : (d w : ℕ) → 0 < up_to d w → (x : ℕ) × (margin_by d w ≡ Some (pos x))
 margin_in_time d zero p = absurd (omega (arith, rw (le-leb 0 d (omega arith)) at p))
 margin_in_time d (suc w) p = go (dec_le (suc w) d)
   where
-    go : Dec (suc w ≤ d) → (x : ℕ) × (margin_by d (suc w) ≡ Known (pos x))
+    go : Dec (suc w ≤ d) → (x : ℕ) × (margin_by d (suc w) ≡ Some (pos x))
     go (yes l) = (d - suc w, rw (le-ltb d (suc w) (omega arith)) refl)
     go (no l) = absurd (omega (arith, rw (lt-leb (suc w) d (omega arith)) at p))

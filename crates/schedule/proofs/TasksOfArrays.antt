@@ -14,14 +14,15 @@ use Rattle.mask.specs.Mask.{has, below, Subset, sum_over}
 use Rattle.mask.proofs.Laws.{below_has, has_below, has_and, has_mask, subset_below, sum_wider}
 use Rattle.schedule.specs.Periodic.{Valid, Constrained, LateSet}
 use Rattle.schedule.specs.Response.{share, demand, response}
-use Rattle.schedule.specs.Arrays.{InLimits, SmallShares, higher_than, share_of, shares_of, tasks_of, work_row, period_row, deadline_row, priority_row, higher_row}
+use Rattle.schedule.specs.Arrays.{InLimits, SmallShares, higher_than, share_of, shares_of, tasks_of}
 use Rattle.mask.proofs.Tests.{and_left, and_right}
 use Rattle.schedule.proofs.Only.{only_in}
 use Rattle.schedule.proofs.LateSets.{late_set}
 use Rattle.finite.proofs.Tabulate.{get_d_tabulate}
+use Rattle.schedule.specs.declared.Timing.{Timing}
 
-module _ {n : ℕ} {rows : List (List ℕ)} {set : ℕ} (a : InLimits n rows set) where
-  pub work_in_period : (i : ℕ) → i < n → get_or (work_row rows) i 0 ≤ get_or (period_row rows) i 0
+module _ {n : ℕ} {rows : Timing} {set : ℕ} (a : InLimits n rows set) where
+  pub work_in_period : (i : ℕ) → i < n → get_or rows.work i 0 ≤ get_or rows.period i 0
   work_in_period i l = omega (arith, a.in_deadline i l, a.in_period i l)
 
   pub valid_of : Valid (tasks_of n rows)
@@ -34,10 +35,10 @@ module _ {n : ℕ} {rows : List (List ℕ)} {set : ℕ} (a : InLimits n rows set
   pub constrained_of : Constrained (tasks_of n rows)
   constrained_of = a.in_period
 
-  pub work_bound : (i : ℕ) → i < n → get_or (work_row rows) i 0 ≤ 1000000
+  pub work_bound : (i : ℕ) → i < n → get_or rows.work i 0 ≤ 1000000
   work_bound i l = omega (arith, work_in_period i l, a.short_period i l)
 
-  pub deadline_bound : (i : ℕ) → i < n → get_or (deadline_row rows) i 0 ≤ 1000000
+  pub deadline_bound : (i : ℕ) → i < n → get_or rows.deadline i 0 ≤ 1000000
   deadline_bound i l = omega (arith, a.in_period i l, a.short_period i l)
 
   -- the limits do not depend on the set
@@ -67,21 +68,21 @@ module _ {n : ℕ} {rows : List (List ℕ)} {set : ℕ} (a : InLimits n rows set
   not_late_if h q = let e = (late_set (tasks_of n rows) valid_of (has set) constrained_of).0 q in omega (arith, e.3, h e.0 e.2)
 
   -- the tasks that may delay task i
-  higher_at : (i : ℕ) → i < n → get_or (higher_row rows) i 0 ≡ higher_than n (priority_row rows) i
+  higher_at : (i : ℕ) → i < n → get_or rows.higher i 0 ≡ higher_than n rows.priority i
   higher_at i l =
       ap (λ (h : List ℕ). get_or h i 0) a.ranked
-      ∙ get_d_tabulate 24 (λ k. only (ltb k n) (higher_than n (priority_row rows) k)) i 0 (omega (arith, a.few))
-      ∙ only_in (ltb i n) (higher_than n (priority_row rows) i) (lt→ltb i n l)
+      ∙ get_d_tabulate 24 (λ k. only (ltb k n) (higher_than n rows.priority k)) i 0 (omega (arith, a.few))
+      ∙ only_in (ltb i n) (higher_than n rows.priority i) (lt→ltb i n l)
 
-  others_has : (i : ℕ) → i < n → (j : ℕ) → has (bit_and set (get_or (higher_row rows) i 0)) j ≡ (has set j && (ltb j n && ltb (get_or (priority_row rows) i 0) (get_or (priority_row rows) j 0)))
-  others_has i l j = has_and set (get_or (higher_row rows) i 0) j ∙ ap (λ (b : Bool). has set j && b) (ap (λ (m : ℕ). has m j) (higher_at i l) ∙ has_mask n (λ k. ltb (get_or (priority_row rows) i 0) (get_or (priority_row rows) k 0)) j)
+  others_has : (i : ℕ) → i < n → (j : ℕ) → has (bit_and set (get_or rows.higher i 0)) j ≡ (has set j && (ltb j n && ltb (get_or rows.priority i 0) (get_or rows.priority j 0)))
+  others_has i l j = has_and set (get_or rows.higher i 0) j ∙ ap (λ (b : Bool). has set j && b) (ap (λ (m : ℕ). has m j) (higher_at i l) ∙ has_mask n (λ k. ltb (get_or rows.priority i 0) (get_or rows.priority k 0)) j)
 
-  others_below : (i : ℕ) → i < n → (j : ℕ) → T (has (bit_and set (get_or (higher_row rows) i 0)) j) → j < n
+  others_below : (i : ℕ) → i < n → (j : ℕ) → T (has (bit_and set (get_or rows.higher i 0)) j) → j < n
   others_below i l j u =
-      let over = ltb (get_or (priority_row rows) i 0) (get_or (priority_row rows) j 0) in
+      let over = ltb (get_or rows.priority i 0) (get_or rows.priority j 0) in
       ltb→lt j n (and_left (ltb j n) over (and_right (has set j) (ltb j n && over) (rw (others_has i l j) at u)))
 
-  pub small_shares : (i : ℕ) → i < n → SmallShares rows (bit_and set (get_or (higher_row rows) i 0))
+  pub small_shares : (i : ℕ) → i < n → SmallShares rows (bit_and set (get_or rows.higher i 0))
   small_shares i l = record {
     few = λ j u. omega (arith, others_below i l j u, a.few);
     some_period = λ j u. valid_of.some_period j (others_below i l j u);
@@ -89,14 +90,14 @@ module _ {n : ℕ} {rows : List (List ℕ)} {set : ℕ} (a : InLimits n rows set
     little_work = λ j u. work_bound j (others_below i l j u);
   }
 
-  pub demand_of : (i x : ℕ) {own rest : ℕ} → i < n → own ≡ get_or (work_row rows) i 0 → rest ≡ shares_of rows (bit_and set (get_or (higher_row rows) i 0)) x
+  pub demand_of : (i x : ℕ) {own rest : ℕ} → i < n → own ≡ get_or rows.work i 0 → rest ≡ shares_of rows (bit_and set (get_or rows.higher i 0)) x
       → own + rest ≡ demand (tasks_of n rows) (has set) i x
   unfolding demand sum_over
   demand_of i x l own rest =
       ap₂ ◌+◌ own (rest ∙ sum_wider n 24 others (share_of rows x) a.few (has_below n others (others_below i l)) ∙ sum_ext n term (share (tasks_of n rows) (has set) i x) here)
     where
       others : ℕ
-      others = bit_and set (get_or (higher_row rows) i 0)
+      others = bit_and set (get_or rows.higher i 0)
 
       term : ℕ → ℕ
       term j = only (has others j) (share_of rows x j)

@@ -1,4 +1,4 @@
-// The response and the margin of a task, and whether a set of tasks is late. The tasks are lent as five rows of numbers, a place for each task, and a set is a mask.
+// The response and the margin of a task, and whether a set of tasks is late. The tasks are lent as rows of numbers, a place for each task, and a set is a mask.
 #![tactic(auto)]
 
 ghost use Rattle.std.specs.Prelude.{◌≡◌, ◌*◌, ◌<◌, ◌≤◌, pos, ◌-ℤ◌, get_or};
@@ -6,30 +6,23 @@ ghost use Rattle.std.specs.Int.Signed.{mag};
 ghost use Rattle.mask.specs.Mask.{has};
 ghost use Rattle.schedule.specs.Periodic.{LateSet};
 ghost use Rattle.schedule.specs.Response.{ceil, demand, least_solution, worst_response, up_to, response};
-ghost use Rattle.schedule.specs.Arrays.{tasks_of, shares_of, SmallShares, InLimits, Says, work_row};
+ghost use Rattle.schedule.specs.Arrays.{tasks_of, shares_of, SmallShares, InLimits, Says};
 ghost use Rattle.schedule.specs.Margin.{margin_by};
 
 use numbers::wide;
 
-// The rows: C, T, D, the priority, and the tasks of larger priority.
-pub type Timing = [[u32; 24]; 5];
-
-pub const WORK: usize = 0;
-
-pub const PERIOD: usize = 1;
-
-pub const DEADLINE: usize = 2;
-
-pub const PRIORITY: usize = 3;
-
-pub const HIGHER: usize = 4;
-
-// Deadline minus worst response, where that is at most the period; else it is beyond.
+// The tasks' numbers, a place for each task: C, T, D, the priority, and the tasks of larger priority.
 #[derive(Clone, Copy)]
-pub enum Margin {
-    Known(i32),
-    Beyond,
+pub struct Timing {
+    pub work: [u32; 24],
+    pub period: [u32; 24],
+    pub deadline: [u32; 24],
+    pub priority: [u32; 24],
+    pub higher: [u32; 24],
 }
+
+// Deadline minus worst response, where that is at most the period; else none, and it is beyond.
+pub type Margin = Option<i32>;
 
 // x / t, rounded up.
 fn rounded_up(x: u32, t: u32) -> u32
@@ -53,11 +46,8 @@ fn interference(timing: &Timing, others: u32, x: u32) -> u64
     ensures { (result ≡ shares_of timing.now others x) × (result ≤ 24 * 1000000000000) }
 {
     let mut sum: u64 = 0;
-    let mut left = others;
-    while left != 0 {
-        let j = mask::lowest(left);
-        sum += share(x, timing[PERIOD][j], timing[WORK][j]);
-        left = mask::remove(left, j);
+    for j in mask::members(others) {
+        sum += share(x, timing.period[j], timing.work[j]);
     }
     sum
 }
@@ -67,16 +57,16 @@ fn demand_at(timing: &Timing, n: usize, set: u32, i: usize, x: u32) -> u64
     requires { InLimits n timing.now set × (i < n) × (x ≤ 1000000) }
     ensures { result ≡ demand (tasks_of n timing.now) (has set) i x }
 {
-    wide(timing[WORK][i]) + interference(timing, set & timing[HIGHER][i], x)
+    wide(timing.work[i]) + interference(timing, set & timing.higher[i], x)
 }
 
 // The least solution of the response equation of task i in the set, where it is at most the limit; 0 where it is above that or there is none.
 fn least_solution(timing: &Timing, n: usize, set: u32, i: usize, limit: u32) -> u32
-    requires { InLimits n timing.now set × (i < n) × (get_or (work_row timing.now) i 0 ≤ limit) × (limit ≤ 1000000) }
+    requires { InLimits n timing.now set × (i < n) × (get_or timing.now.work i 0 ≤ limit) × (limit ≤ 1000000) }
     ensures { result ≡ least_solution (demand (tasks_of n timing.now) (has set) i) limit }
 {
     let most = wide(limit);
-    let mut x = timing[WORK][i];
+    let mut x = timing.work[i];
     let end = loop {
         let y = demand_at(timing, n, set, i, x);
         if y == wide(x) {
@@ -95,7 +85,7 @@ pub fn worst_response(timing: &Timing, n: usize, set: u32, i: usize) -> u32
     requires { InLimits n timing.now set × (i < n) }
     ensures { (result ≡ worst_response (tasks_of n timing.now) (has set) i) × (result ≤ 1000000) }
 {
-    least_solution(timing, n, set, i, timing[PERIOD][i])
+    least_solution(timing, n, set, i, timing.period[i])
 }
 
 // The response by the deadline and the worst response: 0 where that is above the deadline.
@@ -119,9 +109,9 @@ pub fn margin_by(deadline: u32, worst: u32) -> Margin
     ensures { result ≡ margin_by deadline worst }
 {
     if worst == 0 {
-        return Margin::Beyond;
+        return None;
     }
-    Margin::Known(difference(deadline, worst))
+    Some(difference(deadline, worst))
 }
 
 // The response of task i in the set. The calculation ends at the deadline: nothing beyond it is asked for here.
@@ -129,7 +119,7 @@ fn response(timing: &Timing, n: usize, set: u32, i: usize) -> u32
     requires { InLimits n timing.now set × (i < n) }
     ensures { result ≡ response (tasks_of n timing.now) (has set) i }
 {
-    least_solution(timing, n, set, i, timing[DEADLINE][i])
+    least_solution(timing, n, set, i, timing.deadline[i])
 }
 
 // Whether the set has a late job in the tick run.
@@ -137,13 +127,10 @@ pub fn is_late(timing: &Timing, n: usize, set: u32) -> bool
     requires { InLimits n timing.now set }
     ensures { Says result (LateSet (tasks_of n timing.now) (has set)) }
 {
-    let mut left = set;
-    while left != 0 {
-        let i = mask::lowest(left);
+    for i in mask::members(set) {
         if response(timing, n, set, i) == 0 {
             return true;
         }
-        left = mask::remove(left, i);
     }
     false
 }

@@ -10,9 +10,10 @@ use borrow.Author.Tests.{lt-ltb, le-ltb}
 use lib.Dec.{ltb}
 use lib.ListN.{length, get_or, take, drop}
 use Rattle.wire.specs.Wire.{Bytes}
-use Rattle.verdict.specs.declared.Cause.{Cause}
-use Rattle.table.specs.declared.Outcome.{Outcome}
-use Rattle.table.specs.declared.Outcome.TheVariants as outcomes
+use Rattle.verdict.specs.declared.Cause.TheVariants.{ShortAnswer}
+use Rattle.std.specs.Prelude.{Result, Ok, Err}
+use Rattle.table.specs.declared.Refusal.{Refusal}
+use Rattle.table.specs.Refusal.{refusal}
 use Rattle.table.specs.declared.Table.{Table}
 use Rattle.table.specs.Sound.{Sound}
 use Rattle.table.specs.Table.{read_of}
@@ -25,8 +26,6 @@ use Rattle.goal.specs.Goal.{placements, nth, first_good, head_of, mark_of}
 use Rattle.goal.proofs.First.{Before, first_good_lem, earlier_bad, none_good, earlier_before, before_earlier, found_head_lem, none_before, none_head_lem}
 use Rattle.goal.proofs.Mark.{complete_listed, cut_listed, met_elim}
 use Rattle.goal.proofs.Few.{listed_below}
-use Rattle.search.specs.declared.Answer.{Answer}
-use Rattle.search.specs.declared.Answer.TheVariants.{Refused, Written}
 use Rattle.search.specs.Search.{Lists, AnsweredBy, SearchedBy, Searched}
 use Rattle.search.specs.Meaning.{SearchRefuses, unreadable, too_short, Head, AL, NO, head_bytes, RightHead, CountsAsEarlier, RightMark, RightSearch, SearchMeans}
 
@@ -65,11 +64,11 @@ module _ {t : Table} (s : Sound t) where
 -- ---- the answer
 
 module _ (file old new : List ℕ) (b : Bytes file) where
-  right : (count : ℕ) → (read_of file).outcome ≡ outcomes.Readable → ((read_of file).table.tasks.count + 5 ≤ length old) → Lists (read_of file).table old new (Written count) → RightSearch file old new count
+  right : (t : Table) (count : ℕ) → read_of file ≡ Ok t → t.tasks.count + 5 ≤ length old → Lists t old new (Ok count) → RightSearch file old new count
   unfolding answer_bytes
-  right count readable long w = record {
+  right t count read long w = record {
     table = t;
-    read = λ i. record { outcome = readable i; table = t };
+    read = read;
     sound = s;
     long = long;
     head = h.0;
@@ -86,34 +85,28 @@ module _ (file old new : List ℕ) (b : Bytes file) where
     counted = let e = w.count in cc;
   }
     where
-      t : Table
-      t = (read_of file).table
-
       s : Sound t
-      s = read_sound file b readable
+      s = read_sound file b read
 
       h : (head : Head) × Headed t head
       h = headed s
 
-pub search_meaning : (file old new : List ℕ) → Bytes file → (r : Answer) → Searched file old new r → SearchMeans file old new r
-search_meaning file old new b r = go (read_of file).outcome refl r
+pub search_meaning : (file old new : List ℕ) → Bytes file → (r : Result ℕ Refusal) → Searched file old new r → SearchMeans file old new r
+search_meaning file old new b r = go (read_of file) refl r
   where
-    n : ℕ
-    n = (read_of file).table.tasks.count
+    same : {x : Refusal} (r : Refusal) → ◌≡◌ {A = Result ℕ Refusal} (Err r) (Err x) → SearchRefuses file old x.cause x.place → SearchRefuses file old r.cause r.place
+    same {x} r e s = let z : x ≡ r = cc in subst (λ (y : Refusal). SearchRefuses file old y.cause y.place) z s
 
-    same : {c : Cause} {p : ℕ} (cause : Cause) (place : ℕ) → Refused cause place ≡ Refused c p → SearchRefuses file old c p → SearchRefuses file old cause place
-    same {c} {p} cause place e x = let a : c ≡ cause = cc in let z : p ≡ place = cc in subst (λ (y : Cause). SearchRefuses file old y place) a (subst (SearchRefuses file old c) z x)
+    by : (t : Table) → read_of file ≡ Ok t → Dec (length old < t.tasks.count + 5) → (r : Result ℕ Refusal) → AnsweredBy (ltb (length old) (t.tasks.count + 5)) t old new r → SearchMeans file old new r
+    by t h (yes l) (Err r) a = let x = rw (lt-ltb (length old) (t.tasks.count + 5) l) at a in (same {x = refusal ShortAnswer 0} r x.0 (too_short (t, h, l)), x.1)
+    by t h (yes l) (Ok count) a = let x = rw (lt-ltb (length old) (t.tasks.count + 5) l) at a in absurd (let e = x.0 in let z : ◌≡◌ {A = ℕ} 0 1 = cc in omega arith)
+    by t h (no l) (Err r) a = let x = rw (le-ltb (length old) (t.tasks.count + 5) (omega arith)) at a in absurd (let e = x.count in let z : ◌≡◌ {A = ℕ} 0 1 = cc in omega arith)
+    by t h (no l) (Ok count) a = right file old new b t count h (omega arith) (rw (le-ltb (length old) (t.tasks.count + 5) (omega arith)) at a)
 
-    by : (read_of file).outcome ≡ outcomes.Readable → Dec (length old < n + 5) → (r : Answer) → AnsweredBy (ltb (length old) (n + 5)) (read_of file).table old new r → SearchMeans file old new r
-    by h (yes l) (Refused cause place) a = let x = rw (lt-ltb (length old) (n + 5) l) at a in (same cause place x.0 (too_short (h, l)), x.1)
-    by h (yes l) (Written count) a = let x = rw (lt-ltb (length old) (n + 5) l) at a in absurd (let e = x.0 in let z : ◌≡◌ {A = ℕ} 0 1 = cc in omega arith)
-    by h (no l) (Refused cause place) a = let x = rw (le-ltb (length old) (n + 5) (omega arith)) at a in absurd (let e = x.count in let z : ◌≡◌ {A = ℕ} 0 1 = cc in omega arith)
-    by h (no l) (Written count) a = right file old new b count h (omega arith) (rw (le-ltb (length old) (n + 5) (omega arith)) at a)
-
-    go : (o : Outcome) → (read_of file).outcome ≡ o → (r : Answer) → SearchedBy o (read_of file).table old new r → SearchMeans file old new r
-    go (outcomes.Refused c p) h (Refused cause place) a = (same cause place a.0 (unreadable h), a.1)
-    go (outcomes.Refused c p) h (Written count) a = absurd (let e = a.0 in let z : ◌≡◌ {A = ℕ} 0 1 = cc in omega arith)
-    go outcomes.Readable h r a = by h (dec_lt (length old) (n + 5)) r a
+    go : (o : Result Table Refusal) → read_of file ≡ o → (r : Result ℕ Refusal) → SearchedBy o old new r → SearchMeans file old new r
+    go (Err x) h (Err r) a = (same r a.0 (unreadable h), a.1)
+    go (Err x) h (Ok count) a = absurd (let e = a.0 in let z : ◌≡◌ {A = ℕ} 0 1 = cc in omega arith)
+    go (Ok t) h r a = by t h (dec_lt (length old) (t.tasks.count + 5)) r a
 
 -- demand 3: `NO` exactly where no placement keeps the placement rules without a late job
 pub none_exactly : {file old new : List ℕ} {count : ℕ} (a : RightSearch file old new count)

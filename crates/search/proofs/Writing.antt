@@ -1,6 +1,6 @@
 -- What the search has settled is what 01 asks, and the buffer holds it. Assumes nothing.
 use mathlib.Core.Path.{◌≡◌, sym, ap, subst, fun_ext, ◌∙◌}
-use mathlib.Core.Bool.{Bool, true, false, not}
+use mathlib.Core.Bool.{Bool, false, not}
 use mathlib.Core.List.{List, ◌++◌}
 use Prim.Native.Nat.{ℕ, ◌+◌, ◌-◌, ◌*◌, ◌≤◌, ◌<◌}
 use native.Mathlib.Omega.{arith}
@@ -10,6 +10,7 @@ use borrow.Rule.Slice.PartMut.{mid_of, put_mid}
 use lib.Dec.{T}
 use Rattle.mask.proofs.Tests.{same_test}
 use Rattle.wire.proofs.Part.{lent, back}
+use Rattle.std.specs.Prelude.{Option, Some, None}
 use Rattle.table.specs.declared.Table.{Table}
 use Rattle.table.specs.Sound.{Sound}
 use Rattle.rules.specs.Placement.{placed}
@@ -28,7 +29,7 @@ use Rattle.partial.specs.Partial.{Whole}
 use Rattle.region.specs.Region.{Witness, Settled}
 use Rattle.rules.proofs.Placed.{placed_at, placed_is}
 use Rattle.region.proofs.Filling.{whole_placement}
-use Rattle.search.specs.declared.Answer.TheVariants.{Written}
+use Rattle.std.specs.Prelude.{Ok}
 use Rattle.search.specs.Search.{Lists}
 use Rattle.first.specs.First.{InTime}
 use Rattle.solve.specs.declared.Solved.{Solved}
@@ -53,26 +54,26 @@ pub record Final (t : Table) (old new : List ℕ) (count : ℕ) (cut : Bool) : T
   pub listing : Listing old (masks_in new count) new
 
 module _ {t : Table} (h : Sound t) (old new : List ℕ) (r : Solved) where
-  finals : (found : Bool) → SolvesAs found t old new r → Final t old new r.listed.count r.listed.cut
-  finals true (w, s) = record {
+  finals : (d : Option (List ℕ)) → SolvesAs d t old new r.listed → Final t old new r.listed.count r.listed.cut
+  finals (Some sets) (w, s) = record {
     listed = settled_listed h forth ahead s;
     mark = settled_mark h forth ahead s;
     full = settled_full h forth ahead s;
     listing = listing_grown s.list;
   }
     where
-      l : (q : List ℕ) × PlacementOf t q × (placed q ≡ standing r.on)
+      l : (q : List ℕ) × PlacementOf t q × (placed q ≡ standing sets)
       l = whole_placement h w.whole
 
-      a : AsList t r.on l.0
+      a : AsList t sets l.0
       a = record { placement = l.1; same = l.2 }
 
-      forth : (e : List ℕ) → PlacementOf t e → EarlierThan (standing r.on) e → Before t e
+      forth : (e : List ℕ) → PlacementOf t e → EarlierThan (standing sets) e → Before t e
       forth e v x = earlier_before h (witness_good w a) (earliest h w s a) v (sets_earlier a x)
 
-      ahead : (e : List ℕ) → PlacementOf t e → Before t e → EarlierThan (standing r.on) e
+      ahead : (e : List ℕ) → PlacementOf t e → Before t e → EarlierThan (standing sets) e
       ahead e v b = earlier_sets a (before_earlier h (witness_good w a) (earliest h w s a) v b)
-  finals false s = record {
+  finals None s = record {
     listed = settled_listed h forth (λ e v b. tt) s;
     mark = settled_mark h forth (λ e v b. tt) s;
     full = settled_full h forth (λ e v b. tt) s;
@@ -82,18 +83,15 @@ module _ {t : Table} (h : Sound t) (old new : List ℕ) (r : Solved) where
       forth : (e : List ℕ) → PlacementOf t e → Unit {0} → Before t e
       forth e v x = none_before h (λ q i g. let l = s.refuted q i tt g.keeps in g.in_time l.0 l.1) v
 
-  heads : (found : Bool) → SolvesAs found t old new r → HeadBy found t r.on
-  heads true (w, s) = (w.whole, found_headed h w s)
-  heads false s = none_head_lem h (λ q i g. let l = s.refuted q i tt g.keeps in g.in_time l.0 l.1)
+  heads : (d : Option (List ℕ)) → SolvesAs d t old new r.listed → HeadBy t d
+  heads (Some sets) (w, s) = (w.whole, found_headed h w s)
+  heads None s = none_head_lem h (λ q i g. let l = s.refuted q i tt g.keeps in g.in_time l.0 l.1)
 
   pub solved_final : SolvedAs t old new r → Final t old new r.listed.count r.listed.cut
-  solved_final = finals r.found
+  solved_final = finals r.placement
 
-  pub solved_head : SolvedAs t old new r → HeadBy r.found t r.on
-  solved_head = heads r.found
-
-pub head_known : (t : Table) (sets : List ℕ) {b c : Bool} → b ≡ c → HeadBy b t sets → HeadBy c t sets
-head_known t sets e = subst (λ (x : Bool). HeadBy x t sets) e
+  pub solved_head : SolvedAs t old new r → HeadBy t r.placement
+  solved_head = heads r.placement
 
 -- the processors that are named for the tasks, as a placement
 pub names_list : {t : Table} → Sound t → {sets q : List ℕ} → Whole t sets → Names t sets q → AsList t sets (take t.tasks.count q)
@@ -155,7 +153,7 @@ module _ (t : Table) (old list end : List ℕ) (count : ℕ) (cut : Bool) (long 
   in_places = places_room t.tasks.count (length old) _ (length (masks_in list count)) part_long f.listing.room
 
   pub written : (final : List ℕ) → end ≡ laid (6 * count) (end_bytes (not cut)) (mid_of (t.tasks.count + 2) (length filled - (t.tasks.count + 2)) filled)
-      → final ≡ head_of t ++ drop (t.tasks.count + 2) closed → Lists t old final (Written (t.tasks.count + 5 + 6 * count))
+      → final ≡ head_of t ++ drop (t.tasks.count + 2) closed → Lists t old final (Ok (t.tasks.count + 5 + 6 * count))
   written final a b = record {
     conflicts = masks_in list count;
     listed = f.listed;
@@ -164,7 +162,7 @@ module _ (t : Table) (old list end : List ℕ) (count : ℕ) (cut : Bool) (long 
     buffer = rw f.mark (b ∙ ap (λ (x : List ℕ). head_of t ++ drop (t.tasks.count + 2) x) (back (t.tasks.count + 2) filled end)
         ∙ whole_last t.tasks.count (head_of t) old (not cut) (sym (masks_long list count)) (a ∙ ap (laid (6 * count) (end_bytes (not cut))) part) filled room
         (subst (λ (x : List ℕ). Listing x (masks_in list count) list) (lent (t.tasks.count + 2) old) f.listing));
-    count = ap (λ (x : ℕ). Written (count_of t.tasks.count x)) (sym (masks_long list count));
+    count = ap (λ (x : ℕ). Ok (count_of t.tasks.count x)) (sym (masks_long list count));
   }
 
   -- there is room for the end and for the head, and the count is no larger than the buffer

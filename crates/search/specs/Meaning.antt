@@ -1,8 +1,9 @@
 -- What the search's answer means: demand 3 in the words of 01 ("The search answer"), with the tick run of "Response and run"; "Refused input" for the refusals.
-use Rattle.std.specs.Prelude.{◌≡◌, Bool, true, false, List, ◌++◌, ℕ, ◌+◌, ◌^◌, ◌≤◌, ◌<◌, length, get_or, drop}
+use Rattle.std.specs.Prelude.{◌≡◌, Bool, true, false, List, ◌++◌, ℕ, ◌+◌, ◌^◌, ◌≤◌, ◌<◌, length, get_or, drop, Result, Ok, Err}
 use Rattle.verdict.specs.declared.Cause.{Cause}
 use Rattle.verdict.specs.declared.Cause.TheVariants.{ShortAnswer}
-use Rattle.table.specs.declared.Outcome.TheVariants as outcomes
+use Rattle.table.specs.declared.Refusal.{Refusal}
+use Rattle.table.specs.Refusal.{refusal}
 use Rattle.table.specs.declared.Table.{Table}
 use Rattle.table.specs.Sound.{Sound}
 use Rattle.table.specs.Table.{read_of}
@@ -16,12 +17,10 @@ use Rattle.judge.specs.Meaning.{Reads}
 use Rattle.answer.specs.Answer.{found_head, none_head, records, end_bytes, places, count_of}
 use Rattle.goal.specs.Order.{Earlier}
 use Rattle.goal.specs.Goal.{Resides, OnOne, HoldsListed}
-use Rattle.search.specs.declared.Answer.{Answer}
-use Rattle.search.specs.declared.Answer.TheVariants.{Refused, Written}
 
 -- 01: the file's own refusal; after the file is read 12, an answer buffer below n + 5 bytes, place 0
 pub data SearchRefuses (file old : List ℕ) : Cause → ℕ → Type 0 where
-  unreadable : {cause : Cause} {place : ℕ} → (read_of file).outcome ≡ outcomes.Refused cause place → SearchRefuses file old cause place
+  unreadable : {cause : Cause} {place : ℕ} → read_of file ≡ Err (refusal cause place) → SearchRefuses file old cause place
   too_short : Reads file (λ t. length old < t.tasks.count + 5) → SearchRefuses file old ShortAnswer 0
 
 -- what the head says: a placement, or that there is none
@@ -62,7 +61,7 @@ RightMark t head room cs false = (length cs ≡ room) × SomeEarlier t head (λ 
 pub record RightSearch (file old new : List ℕ) (count : ℕ) : Type 0 where
   -- the file is read as a table, and the buffer is long enough
   pub table : Table
-  pub read : read_of file ≡ record { outcome = outcomes.Readable; table = table }
+  pub read : read_of file ≡ Ok table
   pub sound : Sound table
   pub long : table.tasks.count + 5 ≤ length old
   -- the first placement, or none
@@ -86,6 +85,6 @@ pub record RightSearch (file old new : List ℕ) (count : ℕ) : Type 0 where
   pub counted : count ≡ count_of table.tasks.count (length conflicts)
 
 -- what the search answers on a file and a buffer that held old and now holds new; a refusal writes nothing
-abbrev pub SearchMeans : List ℕ → List ℕ → List ℕ → Answer → Type 0
-SearchMeans file old new (Refused cause place) = SearchRefuses file old cause place × (new ≡ old)
-SearchMeans file old new (Written count) = RightSearch file old new count
+abbrev pub SearchMeans : List ℕ → List ℕ → List ℕ → Result ℕ Refusal → Type 0
+SearchMeans file old new (Err r) = SearchRefuses file old r.cause r.place × (new ≡ old)
+SearchMeans file old new (Ok count) = RightSearch file old new count

@@ -4,73 +4,53 @@
 ghost use Rattle.std.specs.Prelude.{◌≤◌, length};
 ghost use Rattle.table.specs.Sound.{Sound};
 ghost use Rattle.partial.specs.Start.{Started};
-ghost use Rattle.region.specs.Given.{Given, Gives};
+ghost use Rattle.region.specs.Given.{InstanceOf, Given, Gives};
 ghost use Rattle.bound_cache.specs.BoundCache.{Learnt};
 ghost use Rattle.solve.specs.Solve.{SizesOf, SolvedAs};
 
-use bound_cache::BoundCache;
-use heuristics::{CREDIT, Heuristics, NUMBERS, RANDOM};
-use late_cache::LateCache;
-use partial::{Sizes, State};
+use bound_cache::{Caches, EMPTY};
+use heuristics::{Guide, Heuristics};
+use partial::{Instance, Sizes, State};
 use restarts::Listed;
-use rows::{Messages, Rows};
-use schedule::Timing;
 use table::Table;
 
-// Whether there is a placement, the sets of the first, and what is listed.
+// The sets of the first placement, if there is one, and what is listed.
 #[derive(Clone, Copy)]
 pub struct Solved {
-    pub found: bool,
-    pub on: [u32; 8],
+    pub placement: Option<[u32; 8]>,
     pub listed: Listed,
 }
 
 // The search from the empty placement s: the first good one, or the conflicts of all.
-fn solve_from<'a>(
-    timing: &'a Timing,
-    rows: &'a Rows,
-    messages: &'a Messages,
-    sizes: Sizes,
+fn solve_from(
+    instance: &Instance,
     s: State,
     list: &mut [u8],
     heuristics: &mut Heuristics,
-    lateness: &mut LateCache,
-    bounds: &mut BoundCache,
+    caches: &mut Caches,
 ) -> Solved
-    requires { Given sizes timing.now rows.now messages.now (λ t. Started t s) (λ t. Learnt t rows.now lateness.old bounds.old)
+    requires { Given instance.now (λ t. Started t s) (λ t. Learnt t instance.now.rows caches.old.lateness caches.old.bounds)
         × (3 ≤ length list.old) }
-    ensures { Gives sizes timing.now rows.now messages.now
-        (λ t. Started t s) (λ t. Learnt t rows.now lateness.old bounds.old)
+    ensures { Gives instance.now
+        (λ t. Started t s) (λ t. Learnt t instance.now.rows caches.old.lateness caches.old.bounds)
         (λ t. SolvedAs t list.old list.new result) }
 {
-    let decided = restarts::decide(
-        timing, rows, messages, sizes, s, heuristics, lateness, bounds,
-    );
-    if decided.found {
-        let witness = decided.on;
+    if let Some(witness) = restarts::decide(instance, s, heuristics, caches) {
         let nothing = Listed {
             cut: false,
             count: 0,
         };
-        let reached = first::first(
-            timing, rows, messages, sizes, s, 0, witness, list, nothing, heuristics, lateness,
-            bounds,
-        );
+        let reached = first::first(instance, s, 0, witness, list, nothing, heuristics, caches);
         let on = reached.on;
         let listed = reached.listed;
         return Solved {
-            found: true,
-            on,
+            placement: Some(on),
             listed,
         };
     }
-    let listed = restarts::cover(
-        timing, rows, messages, sizes, s, list, 0, heuristics, lateness, bounds,
-    );
-    let on = s.on;
+    let listed = restarts::cover(instance, s, list, 0, heuristics, caches);
     Solved {
-        found: false,
-        on,
+        placement: None,
         listed,
     }
 }
@@ -89,32 +69,54 @@ fn sizes_of(table: Table) -> Sizes
     }
 }
 
-// The search on a table that was read: its rows are made once and lent. The list is the answer's part after the head.
+// What the search of a table is lent. The rows that guide it are made from the others and from a state, the one that the search begins with.
+fn instance_of(table: Table, s: State) -> Instance
+    requires { Sound table }
+    ensures { InstanceOf table result }
+{
+    let timing = timing::timing_of(table);
+    let rows = rows::rows_of(table);
+    let messages = rows::messages_of(table);
+    let sizes = sizes_of(table);
+    let unordered = Instance {
+        timing,
+        rows,
+        messages,
+        sizes,
+    };
+    let guided = static_order::ordered(&unordered, s);
+    let mut instance = unordered;
+    instance.rows = guided;
+    instance
+}
+
+// The search on a table that was read: its instance is made once and lent. The list is the answer's part after the head.
 pub fn solve(table: Table, list: &mut [u8]) -> Solved
     requires { Sound table × (3 ≤ length list.old) }
     ensures { SolvedAs table list.old list.new result }
 {
-    let sizes = sizes_of(table);
-    let timing = timing::timing_of(table);
-    let unordered = rows::rows_of(table);
-    let messages = rows::messages_of(table);
     let s = partial::start(table);
-    let rows = static_order::ordered(&timing, &unordered, &messages, sizes, s);
+    let instance = instance_of(table, s);
     // The search's own numbers: where the random numbers begin, and one try for the bound.
-    let mut heuristics = [[0u32; 24]; 30];
-    heuristics[NUMBERS][RANDOM] = 2463534242;
-    heuristics[NUMBERS][CREDIT] = 1;
-    let mut lateness = [0u32; 81921];
-    let mut bounds = [0u64; 12288];
-    solve_from(
-        &timing,
-        &rows,
-        &messages,
-        sizes,
-        s,
-        list,
-        &mut heuristics,
-        &mut lateness,
-        &mut bounds,
-    )
+    let guide = Guide {
+        failures: [0; 24],
+        random: 2463534242,
+        credit: 1,
+        skips: 0,
+        fuel: 0,
+        weighted: false,
+        nodes: 0,
+        listing: None,
+        tried: 0,
+    };
+    let mut heuristics = Heuristics {
+        guide,
+        kept: guide,
+        weights: [[0; 24]; 26],
+    };
+    let mut caches = Caches {
+        lateness: [0; 81921],
+        bounds: [EMPTY; 2048],
+    };
+    solve_from(&instance, s, list, &mut heuristics, &mut caches)
 }

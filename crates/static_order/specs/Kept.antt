@@ -1,6 +1,11 @@
 -- What the search needs of the rows that guide it.
-use Rattle.std.specs.Prelude.{◌≡◌, ◌≢◌, List, [], ℕ, get_or}
+use Rattle.std.specs.Prelude.{◌≡◌}
+use Rattle.rows.specs.declared.Rows.{Rows}
 
--- rows 3, 6 and 7 guide the search, and all others are as they were
-pub record Kept (old new : List (List ℕ)) : Type 0 where
-  pub kept : (i : ℕ) → i ≢ 3 → i ≢ 6 → i ≢ 7 → get_or new i [] ≡ get_or old i []
+-- the rows that do not guide the search are as they were
+pub record Kept (old new : Rows) : Type 0 where
+  pub residence : new.residence ≡ old.residence
+  pub load : new.load ≡ old.load
+  pub memory : new.memory ≡ old.memory
+  pub exclusions : new.exclusions ≡ old.exclusions
+  pub partners : new.partners ≡ old.partners

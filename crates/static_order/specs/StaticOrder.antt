@@ -3,12 +3,13 @@
 use Rattle.std.specs.Prelude.{◌||◌, cond, List, ℕ, ◌+◌, ◌*◌, ◌/◌, ◌%◌, min, max, eqb, get_or, set}
 use Rattle.finite.specs.Finite.{only, sum_to}
 use Rattle.table.specs.Table.{column}
-use Rattle.schedule.specs.Arrays.{work_row, deadline_row}
-use Rattle.rows.specs.Rows.{load_row, memory_row, sender_row, receiver_row, amount_row}
 use Rattle.partial.specs.declared.Sizes.{Sizes}
 use Rattle.partial.specs.declared.State.{State}
 use Rattle.ordering.specs.Ordering.{order_of}
 use Rattle.pairs.specs.Pairs.{strangers_of}
+use Rattle.schedule.specs.declared.Timing.{Timing}
+use Rattle.rows.specs.declared.Rows.{Rows}
+use Rattle.rows.specs.declared.Messages.{Messages}
 
 -- ---- how large each task is
 
@@ -25,14 +26,14 @@ unfoldable pub millionths_of : ℕ → ℕ → ℕ
 millionths_of x all = min (short x * 1000000 / (all + 1)) 1000000
 
 -- the share of all load that task k takes, and the share of all memory
-abbrev pub load_share : List (List ℕ) → State → ℕ → ℕ
-load_share rows s k = millionths_of (get_or (load_row rows) k 0) (sum_of s.load)
+abbrev pub load_share : Rows → State → ℕ → ℕ
+load_share rows s k = millionths_of (get_or rows.load k 0) (sum_of s.load)
 
-abbrev pub memory_share : List (List ℕ) → State → ℕ → ℕ
-memory_share rows s k = millionths_of (get_or (memory_row rows) k 0) (sum_of s.memory)
+abbrev pub memory_share : Rows → State → ℕ → ℕ
+memory_share rows s k = millionths_of (get_or rows.memory k 0) (sum_of s.memory)
 
 -- the weight of each task: both shares together
-unfoldable pub weights_of : List (List ℕ) → State → List ℕ
+unfoldable pub weights_of : Rows → State → List ℕ
 weights_of rows s = column 24 24 (λ k. load_share rows s k + memory_share rows s k)
 
 -- ---- how hard each task is to place
@@ -42,7 +43,7 @@ unfoldable pub scaled_of : ℕ → ℕ → ℕ
 scaled_of part processors = min (part * processors * 32 / 1000000) 256
 
 -- the larger share of task k, of the load or of the memory
-unfoldable pub bulk_of : List (List ℕ) → State → ℕ → ℕ → ℕ
+unfoldable pub bulk_of : Rows → State → ℕ → ℕ → ℕ
 bulk_of rows s processors k = max (scaled_of (load_share rows s k) processors) (scaled_of (memory_share rows s k) processors)
 
 -- how much of its deadline a task works, in 16ths
@@ -58,26 +59,26 @@ unfoldable pub message_weight : ℕ → ℕ → ℕ → ℕ → ℕ → ℕ
 message_weight from to task amount capacity = only (eqb from task || eqb to task) (network_share amount capacity)
 
 -- all messages of the task
-unfoldable pub messages_weight : List (List ℕ) → ℕ → ℕ → ℕ → ℕ
+unfoldable pub messages_weight : Messages → ℕ → ℕ → ℕ → ℕ
 messages_weight messages count capacity task =
-    sum_to count (λ j. message_weight (get_or (sender_row messages) j 0) (get_or (receiver_row messages) j 0) task (get_or (amount_row messages) j 0) capacity)
+    sum_to count (λ j. message_weight (get_or messages.sender j 0) (get_or messages.receiver j 0) task (get_or messages.amount j 0) capacity)
 
 -- how hard task k is to place: 16, and 16 for each task that can never stand beside it, its bulk, its density, and its messages
-unfoldable pub base_of : List (List ℕ) → List (List ℕ) → List (List ℕ) → Sizes → State → ℕ → ℕ
+unfoldable pub base_of : Timing → Rows → Messages → Sizes → State → ℕ → ℕ
 base_of timing rows messages sizes s k =
     16 + 16 * strangers_of timing rows sizes s k
     + bulk_of rows s sizes.processors k
-    + density_of (get_or (work_row timing) k 0) (get_or (deadline_row timing) k 0)
+    + density_of (get_or timing.work k 0) (get_or timing.deadline k 0)
     + messages_weight messages sizes.messages s.traffic k
 
 -- the same for each task
-unfoldable pub bases_of : List (List ℕ) → List (List ℕ) → List (List ℕ) → Sizes → State → List ℕ
+unfoldable pub bases_of : Timing → Rows → Messages → Sizes → State → List ℕ
 bases_of timing rows messages sizes s = column 24 sizes.tasks (base_of timing rows messages sizes s)
 
 -- ---- the rows
 
--- the rows of the tasks with the weights as row 3, the tasks by falling weight as row 6, and how hard each is to place as row 7
-unfoldable pub ordered_of : List (List ℕ) → List (List ℕ) → List (List ℕ) → Sizes → State → List (List ℕ)
+-- the rows of the tasks with the weights, the tasks by falling weight, and how hard each is to place
+unfoldable pub ordered_of : Timing → Rows → Messages → Sizes → State → Rows
 ordered_of timing rows messages sizes s =
     let weights = weights_of rows s in
-    set (set (set rows 3 weights) 6 (order_of weights weights)) 7 (bases_of timing rows messages sizes s)
+    record rows { weight = weights; order = order_of weights weights; base = bases_of timing rows messages sizes s }

@@ -9,9 +9,8 @@ ghost use Rattle.static_order.specs.StaticOrder.{short, sum_of, millionths_of, w
 ghost use Rattle.static_order.specs.StaticOrder.{message_weight, messages_weight, base_of, bases_of, ordered_of};
 
 use numbers::{lower, wide};
-use partial::{Sizes, State};
-use rows::{AMOUNT, BASE, LOAD, MEMORY, Messages, ORDER, RECEIVER, Rows, SENDER, WEIGHT};
-use schedule::{DEADLINE, Timing, WORK};
+use partial::{Instance, State};
+use rows::{Messages, Rows};
 
 // x as long as it is below 2^40, as every load, every memory and every room is.
 fn short(x: u64) -> u64
@@ -25,10 +24,8 @@ fn sum_of(rooms: [u64; 8]) -> u64
     ensures { (result ≡ sum_of rooms) × (result ≤ 8796093022208) }
 {
     let mut sum: u64 = 0;
-    let mut p: usize = 0;
-    while p < 8 {
+    for p in 0..8 {
         sum += short(rooms[p]);
-        p += 1;
     }
     sum
 }
@@ -50,12 +47,10 @@ fn weights_of(rows: &Rows, s: State) -> [u32; 24]
     let all_memory = sum_of(memory_rooms);
     let all_load = sum_of(load_rooms);
     let mut weights = [0u32; 24];
-    let mut k: usize = 0;
-    while k < 24 {
-        let sum = millionths(wide(rows[LOAD][k]), all_load)
-            + millionths(wide(rows[MEMORY][k]), all_memory);
+    for k in 0..24 {
+        let sum = millionths(wide(rows.load[k]), all_load)
+            + millionths(wide(rows.memory[k]), all_memory);
         weights[k] = sum as u32;
-        k += 1;
     }
     weights
 }
@@ -76,11 +71,11 @@ fn bulk(rows: &Rows, s: State, processors: usize, k: usize) -> u64
     let memory_rooms = s.memory;
     let load_rooms = s.load;
     let by_load = scaled(
-        millionths(wide(rows[LOAD][k]), sum_of(load_rooms)),
+        millionths(wide(rows.load[k]), sum_of(load_rooms)),
         processors,
     );
     let by_memory = scaled(
-        millionths(wide(rows[MEMORY][k]), sum_of(memory_rooms)),
+        millionths(wide(rows.memory[k]), sum_of(memory_rooms)),
         processors,
     );
     if by_load < by_memory {
@@ -121,76 +116,58 @@ fn messages_weight(messages: &Messages, count: usize, capacity: u64, task: u64) 
     ensures { (result ≡ messages_weight messages.now count capacity task) × (result ≤ 262144) }
 {
     let mut sum: u64 = 0;
-    let mut j: usize = 0;
-    while j < count {
-        let from = messages[SENDER][j];
-        let to = messages[RECEIVER][j];
-        sum += message_weight(from, to, task, messages[AMOUNT][j], capacity);
-        j += 1;
+    for j in 0..count {
+        let from = wide(messages.sender[j]);
+        let to = wide(messages.receiver[j]);
+        sum += message_weight(from, to, task, messages.amount[j], capacity);
     }
     sum
 }
 
 // How hard task k is to place, where nothing stands yet; 0 beyond the tasks.
-fn base_of<'a>(
-    timing: &'a Timing,
-    rows: &'a Rows,
-    messages: &'a Messages,
-    sizes: Sizes,
-    s: State,
-    k: usize,
-) -> u32
-    requires { InLimits sizes.tasks timing.now 0 × (sizes.processors ≤ 8) × (sizes.messages ≤ 64) }
-    ensures { result ≡ only (ltb k sizes.tasks) (base_of timing.now rows.now messages.now sizes s k) }
+fn base_of(instance: &Instance, s: State, k: usize) -> u32
+    requires { InLimits instance.now.sizes.tasks instance.now.timing 0 × (instance.now.sizes.processors ≤ 8) × (instance.now.sizes.messages ≤ 64) }
+    ensures { result ≡ only (ltb k instance.now.sizes.tasks) (base_of instance.now.timing instance.now.rows instance.now.messages instance.now.sizes s k) }
 {
-    if sizes.tasks <= k {
+    if instance.sizes.tasks <= k {
         return 0;
     }
-    let others = pairs::strangers(timing, rows, sizes, s, k);
-    let size = bulk(rows, s, sizes.processors, k);
-    let density = density(timing[WORK][k], timing[DEADLINE][k]);
-    let sent = messages_weight(messages, sizes.messages, s.traffic, k as u64);
+    let others = pairs::strangers(instance, s, k);
+    let size = bulk(&instance.rows, s, instance.sizes.processors, k);
+    let density = density(instance.timing.work[k], instance.timing.deadline[k]);
+    let sent = messages_weight(
+        &instance.messages,
+        instance.sizes.messages,
+        s.traffic,
+        k as u64,
+    );
     (16 + 16 * others + size + density + sent) as u32
 }
 
 // How hard each task is to place: the search places the hardest first.
-fn bases_of<'a>(
-    timing: &'a Timing,
-    rows: &'a Rows,
-    messages: &'a Messages,
-    sizes: Sizes,
-    s: State,
-) -> [u32; 24]
-    requires { InLimits sizes.tasks timing.now 0 × (sizes.processors ≤ 8) × (sizes.messages ≤ 64) }
-    ensures { result ≡ bases_of timing.now rows.now messages.now sizes s }
+fn bases_of(instance: &Instance, s: State) -> [u32; 24]
+    requires { InLimits instance.now.sizes.tasks instance.now.timing 0 × (instance.now.sizes.processors ≤ 8) × (instance.now.sizes.messages ≤ 64) }
+    ensures { result ≡ bases_of instance.now.timing instance.now.rows instance.now.messages instance.now.sizes s }
 {
     let mut bases = [0u32; 24];
-    let mut k: usize = 0;
-    while k < 24 {
-        let base = base_of(timing, rows, messages, sizes, s, k);
+    for k in 0..24 {
+        let base = base_of(instance, s, k);
         bases[k] = base;
-        k += 1;
     }
     bases
 }
 
 // The rows with the rows that guide the search.
-pub fn ordered<'a>(
-    timing: &'a Timing,
-    rows: &'a Rows,
-    messages: &'a Messages,
-    sizes: Sizes,
-    s: State,
-) -> Rows
-    requires { InLimits sizes.tasks timing.now 0 × (sizes.processors ≤ 8) × (sizes.messages ≤ 64) }
-    ensures { result ≡ ordered_of timing.now rows.now messages.now sizes s }
+pub fn ordered(instance: &Instance, s: State) -> Rows
+    requires { InLimits instance.now.sizes.tasks instance.now.timing 0 × (instance.now.sizes.processors ≤ 8) × (instance.now.sizes.messages ≤ 64) }
+    ensures { result ≡ ordered_of instance.now.timing instance.now.rows instance.now.messages instance.now.sizes s }
 {
-    let weights = weights_of(rows, s);
+    let weights = weights_of(&instance.rows, s);
     let order = ordering::order_of(&weights, &weights);
-    let bases = bases_of(timing, rows, messages, sizes, s);
-    let mut filled = *rows;
-    filled[WEIGHT] = weights;
-    filled[ORDER] = order;
-    filled[BASE] = bases;
+    let bases = bases_of(instance, s);
+    let mut filled = instance.rows;
+    filled.weight = weights;
+    filled.order = order;
+    filled.base = bases;
     filled
 }

@@ -22,11 +22,8 @@ fn counted(counts: [u32; 24], set: u32) -> [u32; 24]
     ensures { result ≡ counted_of counts set }
 {
     let mut next = counts;
-    let mut rest = set & mask::all_below(24);
-    while rest != 0 {
-        let k = mask::lowest(rest);
+    for k in mask::members(set & mask::all_below(24)) {
         next[k] = counts[k] + 1;
-        rest = mask::remove(rest, k);
     }
     next
 }
@@ -37,11 +34,9 @@ fn counts(sets: [u32; 8], m: usize) -> [u32; 24]
     ensures { result ≡ counts_of sets m }
 {
     let mut taken = [0u32; 24];
-    let mut p: usize = 0;
-    while p < m {
+    for p in 0..m {
         let more = counted(taken, sets[p]);
         taken = more;
-        p += 1;
     }
     taken
 }
@@ -63,10 +58,8 @@ fn direction(first: bool, before: [u32; 24], counts: [u32; 24]) -> [u32; 24]
     ensures { result ≡ direction_of first before counts }
 {
     let mut next = [0u32; 24];
-    let mut k: usize = 0;
-    while k < 24 {
+    for k in 0..24 {
         next[k] = direction_from(first, before[k], counts[k]);
-        k += 1;
     }
     next
 }
@@ -88,12 +81,9 @@ fn norm(direction: [u32; 24], left: u32) -> u64
     ensures { result ≡ norm_of direction left }
 {
     let mut sum: u64 = 0;
-    let mut rest = left;
-    while rest != 0 {
-        let k = mask::lowest(rest);
+    for k in mask::members(left) {
         let d = distance(direction[k]);
         sum += d * d;
-        rest = mask::remove(rest, k);
     }
     sum
 }
@@ -104,11 +94,8 @@ pub fn total(weights: &[u32; 24], set: u32) -> u64
     ensures { (result ≡ total_of weights.now set) × (result ≤ heaviest) }
 {
     let mut sum: u64 = 0;
-    let mut rest = set;
-    while rest != 0 {
-        let k = mask::lowest(rest);
+    for k in mask::members(set) {
         sum += wide(weights[k]);
-        rest = mask::remove(rest, k);
     }
     sum
 }
@@ -150,11 +137,8 @@ fn moved(weights: [u32; 24], direction: [u32; 24], left: u32, stride: u64, norm:
     ensures { result ≡ moved_of weights direction left stride norm }
 {
     let mut next = weights;
-    let mut rest = left;
-    while rest != 0 {
-        let k = mask::lowest(rest);
+    for k in mask::members(left) {
         next[k] = moved_weight(weights[k], direction[k], stride, norm);
-        rest = mask::remove(rest, k);
     }
     next
 }
@@ -178,10 +162,8 @@ fn scaled(weights: [u32; 24], total: u64) -> [u32; 24]
     ensures { result ≡ scaled_of weights total }
 {
     let mut next = [0u32; 24];
-    let mut k: usize = 0;
-    while k < 24 {
+    for k in 0..24 {
         next[k] = limited(wide(weights[k]) * 4194304 / total);
-        k += 1;
     }
     next
 }

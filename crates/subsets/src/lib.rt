@@ -8,7 +8,7 @@ ghost use Rattle.subsets.specs.Subsets.{can_stand, takes, processors_for, with_n
 
 use numbers::wide;
 use partial::State;
-use rows::{EXCLUSIONS, LOAD, MEMORY, RESIDENCE, Rows};
+use rows::Rows;
 
 // A set of tasks, and the task that may join it next, which is beyond them; the processors on which the set could stand in the region; and what its
 // open tasks take of memory and load.
@@ -27,7 +27,7 @@ fn can_stand(rows: &Rows, s: State, k: usize, p: usize) -> bool
     ensures { result ≡ can_stand rows.now s k p }
 {
     if mask::has(s.left, k) {
-        return mask::has(rows[RESIDENCE][k], p);
+        return mask::has(rows.residence[k], p);
     }
     mask::has(s.on[p], k)
 }
@@ -54,16 +54,14 @@ fn processors_for(rows: &Rows, m: usize, s: State, subset: Subset, k: usize) -> 
     requires { (k < 24) × (m ≤ 8) }
     ensures { result ≡ processors_for rows.now m s subset k }
 {
-    if rows[EXCLUSIONS][k] & subset.set != 0 {
+    if rows.exclusions[k] & subset.set != 0 {
         return 0;
     }
     let mut found: u32 = 0;
-    let mut p: usize = 0;
-    while p < m {
+    for p in 0..m {
         if takes(rows, s, subset, k, p) {
             found = mask::insert(found, p);
         }
-        p += 1;
     }
     found
 }
@@ -88,8 +86,8 @@ pub fn with_next(rows: &Rows, m: usize, s: State, subset: Subset) -> Subset
     let mut wider = subset;
     wider.set = mask::insert(subset.set, k);
     wider.next = k + 1;
-    wider.memory = subset.memory + share(s.left, k, rows[MEMORY][k]);
-    wider.load = subset.load + share(s.left, k, rows[LOAD][k]);
+    wider.memory = subset.memory + share(s.left, k, rows.memory[k]);
+    wider.load = subset.load + share(s.left, k, rows.load[k]);
     let processors = processors_for(rows, m, s, wider, k);
     wider.processors = processors;
     wider

@@ -4,17 +4,18 @@ use Rattle.mask.specs.Mask.{below, sum_over}
 use Rattle.table.specs.declared.Table.{Table}
 use Rattle.table.specs.Sound.{Sound}
 use Rattle.schedule.specs.Arrays.{Says}
-use Rattle.rows.specs.Rows.{loads_of, residence_row, memory_row, load_row}
+use Rattle.rows.specs.Rows.{loads_of}
 use Rattle.partial.specs.declared.State.{State}
 use Rattle.partial.specs.Partial.{Fits}
 use Rattle.symmetry.specs.Symmetry.{Alike}
+use Rattle.rows.specs.declared.Rows.{Rows}
 
 -- a state and a processor of the table whose rows are lent
-pub record Asks (t : Table) (rows : List (List ℕ)) (s : State) (p : ℕ) : Type 0 where
+pub record Asks (t : Table) (rows : Rows) (s : State) (p : ℕ) : Type 0 where
   pub sound : Sound t
-  pub same_residence : residence_row rows ≡ t.tasks.residence
-  pub same_memory : memory_row rows ≡ t.tasks.memory
-  pub same_loads : load_row rows ≡ loads_of t
+  pub same_residence : rows.residence ≡ t.tasks.residence
+  pub same_memory : rows.memory ≡ t.tasks.memory
+  pub same_loads : rows.load ≡ loads_of t
   pub fits : Fits t s
   pub known : p < t.processors.count
 

@@ -10,7 +10,7 @@ ghost use Rattle.symmetry.specs.Asks.{Asks, SaysAlike};
 
 use numbers::{lower, wide};
 use partial::State;
-use rows::{LOAD, MEMORY, RESIDENCE, Rows};
+use rows::Rows;
 
 // Whether what all tasks in the set need, by the row, fits the room; left at the first that does not.
 fn ample(row: &[u32; 24], set: u32, room: u64) -> bool
@@ -18,15 +18,12 @@ fn ample(row: &[u32; 24], set: u32, room: u64) -> bool
     ensures { (n : ℕ) → T (below n set) → result ≡ leb (sum_over n set (λ k. get_or row.now k 0)) room }
 {
     let mut free = room;
-    let mut rest = set;
-    while rest != 0 {
-        let k = mask::lowest(rest);
+    for k in mask::members(set) {
         let x = wide(row[k]);
         if free < x {
             return false;
         }
         free -= x;
-        rest = mask::remove(rest, k);
     }
     true
 }
@@ -36,13 +33,10 @@ fn same_residence(residence: &[u32; 24], set: u32, p: usize, q: usize) -> bool
     requires { T (below 24 set) × (p < 32) × (q < 32) }
     ensures { Says result (SameResidence residence.now set p q) }
 {
-    let mut rest = set;
-    while rest != 0 {
-        let k = mask::lowest(rest);
+    for k in mask::members(set) {
         if mask::has(residence[k], p) != mask::has(residence[k], q) {
             return false;
         }
-        rest = mask::remove(rest, k);
     }
     true
 }
@@ -66,13 +60,13 @@ fn interchangeable(rows: &Rows, s: State, q: usize, p: usize) -> bool
     if s.on[q] != 0 {
         return false;
     }
-    if !alike(&rows[MEMORY], s.left, s.memory[q], s.memory[p]) {
+    if !alike(&rows.memory, s.left, s.memory[q], s.memory[p]) {
         return false;
     }
-    if !alike(&rows[LOAD], s.left, s.load[q], s.load[p]) {
+    if !alike(&rows.load, s.left, s.load[q], s.load[p]) {
         return false;
     }
-    same_residence(&rows[RESIDENCE], s.left, q, p)
+    same_residence(&rows.residence, s.left, q, p)
 }
 
 // The lowest processor below p that is interchangeable with it; p where there is none.
@@ -83,12 +77,10 @@ pub fn representative(rows: &Rows, s: State, p: usize) -> usize
     if s.on[p] != 0 {
         return p;
     }
-    let mut q: usize = 0;
-    while q < p {
+    for q in 0..p {
         if interchangeable(rows, s, q, p) {
             return q;
         }
-        q += 1;
     }
     p
 }

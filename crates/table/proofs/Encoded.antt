@@ -5,6 +5,7 @@ use Prim.Native.Nat.{ℕ, zero, suc, ◌≤◌, ◌<◌}
 use native.Mathlib.Omega.{arith}
 use lib.ListN.{length, take, drop, get_or}
 use lib.Seq.{take-length}
+use Rattle.std.specs.Prelude.{Ok}
 use Rattle.wire.specs.Wire.{Bytes, pieces}
 use Rattle.layout.specs.declared.Kind.{Kind}
 use Rattle.layout.specs.declared.Kind.TheVariants.{Network, Processor, Task, CoResident, Exclusive, Message}
@@ -12,8 +13,8 @@ use Rattle.layout.specs.declared.Progress.{Progress}
 use Rattle.layout.specs.Format.{row, kinds, in_order, size, field, fields_from, count, bytes_of, place}
 use Rattle.layout.proofs.EachKind.{each}
 use Rattle.layout.proofs.Places.{place_first, place_next, place_start, place_end}
-use Rattle.verdict.proofs.Taken.{kind_marked}
-use Rattle.table.specs.declared.Outcome.TheVariants.{Readable}
+use Rattle.verdict.proofs.Acceptance.{kind_marked}
+use Rattle.table.specs.declared.Table.{Table}
 use Rattle.table.specs.Table.{column_of, table_of, read_of}
 use Rattle.table.specs.Encode.{counts_of, values_of, encode_record, records_to, kinds_to, encode}
 use Rattle.table.proofs.Columns.{value}
@@ -65,5 +66,5 @@ module _ {s : List ℕ} {x : Progress} (b : Bytes s) (f : Fine s (length s) x) (
   unfolding encode
   encoded = kinds_read (length kinds) (omega arith) ∙ ap (λ (n : ℕ). take n s) (sym f.reached.ends) ∙ take-length s
 
-pub encode_read : (s : List ℕ) → Bytes s → (read_of s).outcome ≡ Readable → encode (read_of s).table ≡ s
+pub encode_read : (s : List ℕ) {t : Table} → Bytes s → read_of s ≡ Ok t → encode t ≡ s
 encode_read s b e = let r = read_whole s e in ap encode r.table ∙ encoded b r.fine (present r.progress r.complete).0

@@ -8,27 +8,28 @@ use native.Mathlib.Omega.{arith}
 use borrow.Author.Tests.{ltb-false, eqb-false}
 use lib.Dec.{ltb, eqb}
 use lib.ListN.{length}
+use Rattle.std.specs.Prelude.{Result, Ok, Err}
 use Rattle.layout.specs.declared.Kind.TheVariants.{Network, Processor, Task}
 use Rattle.verdict.specs.declared.Cause.{Cause}
 use Rattle.verdict.specs.declared.Cause.TheVariants.{Missing}
-use Rattle.verdict.specs.declared.Verdict.{Verdict}
-use Rattle.verdict.specs.declared.Verdict.TheVariants as verdicts
+use Rattle.verdict.specs.declared.Taken.{Taken}
 use Rattle.layout.specs.declared.Progress.{Progress}
 use Rattle.layout.specs.Format.{count, size, longest}
 use Rattle.layout.proofs.Places.{end_most}
 use Rattle.verdict.specs.Faults.{verdict}
 use Rattle.verdict.specs.Reached.{Reached}
-use Rattle.verdict.proofs.Taken.{accepted}
+use Rattle.verdict.proofs.Acceptance.{accepted}
 use Rattle.verdict.proofs.Passed.{neither}
-use Rattle.table.specs.declared.Outcome.TheVariants.{Readable, Refused}
-use Rattle.table.specs.declared.Scanned.{Scanned}
-use Rattle.table.specs.Scan.{with_record, no_records, refused_scan, missing, at_end, after, scan_from, scan_of}
+use Rattle.table.specs.declared.Refusal.{Refusal}
+use Rattle.table.specs.declared.Table.{Table}
+use Rattle.table.specs.Refusal.{refusal}
+use Rattle.table.specs.Scan.{with_record, no_records, missing, at_end, after, scan_from, scan_of}
 use Rattle.table.specs.Table.{table_of, reading_by, read_of}
 use Rattle.table.proofs.Fine.{Fine, fine_start, fine_next}
 
-data Ended (s : List ℕ) : Scanned → Type 0 where
-  whole : {x : Progress} → Fine s (length s) x → missing x ≡ false → Ended s (record { outcome = Readable; progress = x })
-  refused : {cause : Cause} {at : ℕ} {x : Progress} → Reached s at x → Ended s (refused_scan cause at)
+data Ended (s : List ℕ) : Result Progress Refusal → Type 0 where
+  whole : {x : Progress} → Fine s (length s) x → missing x ≡ false → Ended s (Ok x)
+  refused : {cause : Cause} {at : ℕ} {x : Progress} → Reached s at x → Ended s (Err (refusal cause at))
 
 -- where nothing is missing (01, 11)
 pub present : (x : Progress) → missing x ≡ false → (1 ≤ count x Network) × (1 ≤ count x Processor) × (1 ≤ count x Task)
@@ -49,7 +50,7 @@ module _ {s : List ℕ} {at : ℕ} {x : Progress} (f : Fine s at x) where
       end : at ≡ length s
       end = omega (arith, f.reached.inside)
 
-      go : (b : Bool) → missing x ≡ b → Ended s (cond b (refused_scan Missing at) (record { outcome = Readable; progress = x }))
+      go : (b : Bool) → missing x ≡ b → Ended s (cond b (Err (refusal Missing at)) (Ok x))
       go true e = refused f.reached
       go false e = whole (subst (λ (n : ℕ). Fine s n x) end f) e
 
@@ -58,11 +59,11 @@ module _ {s : List ℕ} {at : ℕ} {x : Progress} (f : Fine s at x) where
       → Ended s (after (verdict s at x) at x (scan_from n s))
   one n l rest = go (verdict s at x) refl
     where
-      go : (v : Verdict) → verdict s at x ≡ v → Ended s (after v at x (scan_from n s))
-      go (verdicts.Refused cause) e = refused f.reached
-      go (verdicts.Taken k h) e =
-          let a = accepted s at x e in
-          subst (λ (m : ℕ). Ended s (scan_from n s (at + size k) (with_record x k m))) (sym a.1) (rest _ _ (fine_next f a.0) (omega arith))
+      go : (v : Result Taken Cause) → verdict s at x ≡ v → Ended s (after v at x (scan_from n s))
+      go (Err cause) e = refused f.reached
+      go (Ok t) e =
+          let a = accepted s at x {k = t.kind} {h = t.hyperperiod} e in
+          subst (λ (m : ℕ). Ended s (scan_from n s (at + size t.kind) (with_record x t.kind m))) (sym a.1) (rest _ _ (fine_next f a.0) (omega arith))
 
 scan_ends : (n : ℕ) (s : List ℕ) (at : ℕ) (x : Progress) → Fine s at x → length s ≤ at + n → Ended s (scan_from n s at x)
 unfolding scan_from
@@ -78,33 +79,34 @@ unfolding scan_of
 scan_ended s = scan_ends (length s) s 0 no_records (fine_start s) (omega arith)
 
 -- a scan that comes to the end has taken the whole file
-pub scan_whole : (s : List ℕ) → (scan_of s).outcome ≡ Readable → Fine s (length s) (scan_of s).progress × (missing (scan_of s).progress ≡ false)
-scan_whole s e = go (scan_of s) (scan_ended s) e
+pub scan_whole : (s : List ℕ) {x : Progress} → scan_of s ≡ Ok x → Fine s (length s) x × (missing x ≡ false)
+scan_whole s {x} e = go (subst (Ended s) e (scan_ended s))
   where
-    go : (r : Scanned) → Ended s r → r.outcome ≡ Readable → Fine s (length s) r.progress × (missing r.progress ≡ false)
-    go r (whole f m) p = (f, m)
-    go r (refused q) p = absurd (let z : ◌≡◌ {A = ℕ} 0 1 = cc in omega arith)
+    go : Ended s (Ok x) → Fine s (length s) x × (missing x ≡ false)
+    go (whole f m) = (f, m)
 
 -- a file that is read, and its table
-pub record Read (s : List ℕ) : Type 0 where
+pub record Read (s : List ℕ) (t : Table) : Type 0 where
   pub progress : Progress
   pub fine : Fine s (length s) progress
   pub complete : missing progress ≡ false
-  pub table : (read_of s).table ≡ table_of s progress
+  pub table : t ≡ table_of s progress
 
-pub read_whole : (s : List ℕ) → (read_of s).outcome ≡ Readable → Read s
+pub read_whole : (s : List ℕ) {t : Table} → read_of s ≡ Ok t → Read s t
 unfolding read_of
-read_whole s e = go (scan_of s) refl (scan_ended s) e
+read_whole s {t} e = go (scan_of s) (scan_ended s) e
   where
-    go : (r : Scanned) → scan_of s ≡ r → Ended s r → (reading_by r.outcome s r.progress).outcome ≡ Readable → Read s
-    go r p (whole {x = x} f m) q = record { progress = x; fine = f; complete = m; table = ap (λ (z : Scanned). (reading_by z.outcome s z.progress).table) p }
-    go r p (refused f) q = absurd (let z : ◌≡◌ {A = ℕ} 0 1 = cc in omega arith)
+    go : (r : Result Progress Refusal) → Ended s r → reading_by s r ≡ Ok t → Read s t
+    go r (whole {x = x} f m) q = record { progress = x; fine = f; complete = m; table = cc }
+    go r (refused f) q = absurd (let z : ◌≡◌ {A = ℕ} 0 1 = cc in omega arith)
 
 -- a refusal's place lies behind records that a file may have, so within the longest file
-pub refused_place : (s : List ℕ) (cause : Cause) (at : ℕ) → (read_of s).outcome ≡ Refused cause at → at ≤ longest
+pub refused_place : (s : List ℕ) {r : Refusal} → read_of s ≡ Err r → r.place ≤ longest
 unfolding read_of
-refused_place s cause at e = go (scan_of s) (scan_ended s) e
+refused_place s {r} e = go (scan_of s) (scan_ended s) e
   where
-    go : (r : Scanned) → Ended s r → (reading_by r.outcome s r.progress).outcome ≡ Refused cause at → at ≤ longest
-    go r (whole f m) p = absurd (let z : ◌≡◌ {A = ℕ} 0 1 = cc in omega arith)
-    go r (refused {at = b} {x = x} q) p = let here : b ≡ at = cc in omega (arith, q.ends, end_most x q.counted)
+    go : (u : Result Progress Refusal) → Ended s u → reading_by s u ≡ Err r → r.place ≤ longest
+    go u (whole f m) p = absurd (let z : ◌≡◌ {A = ℕ} 0 1 = cc in omega arith)
+    go u (refused {cause = d} {at = b} {x = x} q) p =
+        let same : refusal d b ≡ r = cc in
+        omega (arith, ap (λ (z : Refusal). z.place) same, q.ends, end_most x q.counted)

@@ -7,13 +7,13 @@ use native.Mathlib.Decide.{dec_lt}
 use borrow.Author.Tests.{lt-ltb, le-ltb}
 use lib.Dec.{ltb}
 use lib.ListN.{get_or}
+use Rattle.std.specs.Prelude.{Ok}
 use lib.Seq.{ext_get_or}
 use Rattle.finite.specs.Finite.{only}
 use Rattle.layout.specs.declared.Kind.{Kind}
 use Rattle.layout.specs.declared.Kind.TheVariants.{Network, Processor, Task, CoResident, Exclusive, Message}
 use Rattle.layout.specs.Format.{count, field, place}
 use Rattle.layout.proofs.Places.{place_first, place_agree}
-use Rattle.table.specs.declared.Outcome.TheVariants.{Readable}
 use Rattle.table.specs.declared.Table.{Table}
 use Rattle.table.specs.Table.{column, table_of, read_of}
 use Rattle.table.specs.Encode.{counts_of, values_of, encode}
@@ -64,8 +64,6 @@ module _ {t : Table} (h : Sound t) where
     hyperperiod = sym h.hyperperiod i;
   }
 
-pub read_encode : (t : Table) → Sound t → read_of (encode t) ≡ record { outcome = Readable; table = t }
+pub read_encode : (t : Table) → Sound t → read_of (encode t) ≡ Ok t
 unfolding read_of
-read_encode t h =
-    let u = scan_encode h in
-    rw u.1 (λ i. record { outcome = Readable; table = table_back h u.0 i })
+read_encode t h = let u = scan_encode h in rw u.1 (ap Ok (table_back h u.0))

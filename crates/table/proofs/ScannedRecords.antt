@@ -6,6 +6,7 @@ use native.Mathlib.Omega.{arith}
 use native.Mathlib.Nat.{zero-add}
 use borrow.Author.Tests.{lt-ltb, le-ltb, ne_eqb}
 use lib.ListN.{length}
+use Rattle.std.specs.Prelude.{Ok}
 use Rattle.layout.specs.declared.Kind.{Kind}
 use Rattle.layout.specs.declared.Kind.TheVariants.{Network}
 use Rattle.layout.specs.declared.Progress.{Progress}
@@ -13,7 +14,6 @@ use Rattle.layout.specs.Format.{row, kinds, in_order, count, place, end}
 use Rattle.layout.proofs.EachKind.{each, order_below, order_of_lem}
 use Rattle.layout.proofs.Places.{place_first, place_next, place_kind, place_last}
 use Rattle.verdict.proofs.Taking.{taking}
-use Rattle.table.specs.declared.Outcome.TheVariants.{Readable}
 use Rattle.table.specs.declared.Table.{Table}
 use Rattle.table.specs.Scan.{scan_from, scan_of, at_end, missing}
 use Rattle.table.specs.Encode.{counts_of, encode}
@@ -25,7 +25,7 @@ use Rattle.table.proofs.TakenRecords.{accepted}
 -- the scan from record j of a kind on, of at most f records, ends with all records of the table
 record Scans (t : Table) (k : Kind) (j n f : ℕ) : Type 0 where
   last : ℕ
-  result : scan_from f (encode t) (place (whole t) k j) (progress_at t k j n) ≡ record { outcome = Readable; progress = progress_of t last (counts_of t) }
+  result : scan_from f (encode t) (place (whole t) k j) (progress_at t k j n) ≡ Ok (progress_of t last (counts_of t))
 
 -- before record j of a kind: a kind from n on may follow, and f records may be taken
 record Ready (t : Table) (k : Kind) (j n f : ℕ) : Type 0 where
@@ -107,7 +107,7 @@ module _ {t : Table} (h : Sound t) where
       let o : (row i).order ≡ suc (row k).order = order_of_lem (suc (row k).order) (omega arith) in
       scan_on k i o (scan_kinds m i (omega arith))
 
-  pub scan_encode : (n : ℕ) × (scan_of (encode t) ≡ record { outcome = Readable; progress = progress_of t n (counts_of t) })
+  pub scan_encode : (n : ℕ) × (scan_of (encode t) ≡ Ok (progress_of t n (counts_of t)))
   unfolding scan_of
   scan_encode =
       let s = encode t in

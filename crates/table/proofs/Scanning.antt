@@ -5,16 +5,16 @@ use Prim.Native.Nat.{ℕ, zero, suc, ◌+◌, ◌-◌, ◌≤◌, ◌<◌}
 use native.Mathlib.Omega.{arith}
 use borrow.Author.Tests.{lt-ltb, le-ltb}
 use lib.ListN.{length}
-use Rattle.layout.specs.declared.Kind.{Kind}
+use Rattle.std.specs.Prelude.{Result, Ok, Err}
 use Rattle.verdict.specs.declared.Cause.{Cause}
-use Rattle.verdict.specs.declared.Verdict.{Verdict}
-use Rattle.verdict.specs.declared.Verdict.TheVariants.{Taken, Refused}
+use Rattle.verdict.specs.declared.Taken.{Taken}
 use Rattle.layout.specs.declared.Progress.{Progress}
 use Rattle.layout.specs.Format.{size}
 use Rattle.verdict.specs.Faults.{verdict}
 use Rattle.verdict.specs.Reached.{Reached}
-use Rattle.verdict.proofs.Taken.{accepted}
-use Rattle.table.specs.Scan.{no_records, with_record, refused_scan, at_end, after, scan_from, scan_of}
+use Rattle.verdict.proofs.Acceptance.{accepted}
+use Rattle.table.specs.Refusal.{refusal}
+use Rattle.table.specs.Scan.{no_records, with_record, at_end, after, scan_from, scan_of}
 use Rattle.table.proofs.Progress.{reached_start, reached_next}
 
 -- the scan has come to a place with the records x, and the rest of the file decides
@@ -36,18 +36,18 @@ module _ {s : List ℕ} {at : ℕ} {x : Progress} (w : Scanning s at x) where
       let e : w.left ≡ suc (w.left - 1) = omega (arith, w.enough) in
       w.rest ∙ ap (λ (n : ℕ). scan_from n s at x) e ∙ rw (lt-ltb at (length s) l)
 
-  pub scan_next : {k : Kind} {h : ℕ} → at < length s → verdict s at x ≡ Taken k h → Scanning s (at + size k) (with_record x k h)
-  scan_next {k} {h} l e =
-      let a = accepted s at x e in
+  pub scan_next : {t : Taken} → at < length s → verdict s at x ≡ Ok t → Scanning s (at + size t.kind) (with_record x t.kind t.hyperperiod)
+  scan_next {t} l e =
+      let a = accepted s at x {k = t.kind} {h = t.hyperperiod} e in
       record {
         reached = rw a.1 (reached_next w.reached a.0);
         left = w.left - 1;
         enough = omega (arith, w.enough);
-        rest = unrolled l ∙ ap (λ (v : Verdict). after v at x (scan_from (w.left - 1) s)) e;
+        rest = unrolled l ∙ ap (λ (v : Result Taken Cause). after v at x (scan_from (w.left - 1) s)) e;
       }
 
-  pub scan_refused : {c : Cause} → at < length s → verdict s at x ≡ Refused c → scan_of s ≡ refused_scan c at
-  scan_refused l e = unrolled l ∙ ap (λ (v : Verdict). after v at x (scan_from (w.left - 1) s)) e
+  pub scan_refused : {c : Cause} → at < length s → verdict s at x ≡ Err c → scan_of s ≡ Err (refusal c at)
+  scan_refused l e = unrolled l ∙ ap (λ (v : Result Taken Cause). after v at x (scan_from (w.left - 1) s)) e
 
   pub scan_end : length s ≤ at → scan_of s ≡ at_end at x
   unfolding scan_from

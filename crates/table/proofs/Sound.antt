@@ -6,6 +6,7 @@ use Prim.Native.Nat.{ℕ, ◌^◌, ◌≤◌, ◌<◌}
 use native.Mathlib.Omega.{arith}
 use native.Mathlib.Decide.{ℕ_discrete, dec_lt}
 use lib.ListN.{length, get_or}
+use Rattle.std.specs.Prelude.{Ok}
 use Rattle.lcm.proofs.Laws.{lcm_to_ext}
 use Rattle.wire.specs.Wire.{Bytes}
 use Rattle.wire.proofs.Laws.{number_lt}
@@ -14,7 +15,7 @@ use Rattle.layout.specs.declared.Kind.TheVariants.{Processor, Task, CoResident, 
 use Rattle.layout.specs.declared.Progress.{Progress}
 use Rattle.layout.specs.Format.{row, field, count, place, period, priority, sender, receiver}
 use Rattle.verdict.specs.Faults.{not_in_file, bad_group}
-use Rattle.table.specs.declared.Outcome.TheVariants.{Readable}
+use Rattle.table.specs.declared.Table.{Table}
 use Rattle.table.specs.Scan.{missing}
 use Rattle.table.specs.Table.{column_of, group_columns, table_of, read_of}
 use Rattle.table.specs.Sound.{SoundProcessors, SoundTasks, SoundGroups, SoundMessages, Sound}
@@ -127,5 +128,5 @@ module _ {s : List ℕ} {x : Progress} (b : Bytes s) (f : Fine s (length s) x) w
     hyperperiod_most = f.reached.most;
   }
 
-pub read_sound : (s : List ℕ) → Bytes s → (read_of s).outcome ≡ Readable → Sound (read_of s).table
+pub read_sound : (s : List ℕ) {t : Table} → Bytes s → read_of s ≡ Ok t → Sound t
 read_sound s b e = let r = read_whole s e in rw r.table (sound b r.fine r.complete)

@@ -1,4 +1,4 @@
--- 01's numbers of the causes ("Refused input").
+-- Why something is refused, and 01's numbers of the causes ("Refused input").
 use Rattle.std.specs.Prelude.{ℕ}
 use Rattle.verdict.specs.declared.Cause.{Cause}
 use Rattle.verdict.specs.declared.Cause.TheVariants.{
@@ -18,6 +18,7 @@ use Rattle.verdict.specs.declared.Cause.TheVariants.{
   UnknownProcessor,
   NoConflictMask,
 }
+use Rattle.table.specs.declared.Refusal.{Refusal}
 
 -- the number of a cause
 abbrev pub cause_number : Cause → ℕ
@@ -36,3 +37,7 @@ cause_number ShortAnswer = 12
 cause_number PlacementLength = 13
 cause_number UnknownProcessor = 14
 cause_number NoConflictMask = 15
+
+-- a refusal for a cause, at a place
+abbrev pub refusal : Cause → ℕ → Refusal
+refusal cause at = record { cause = cause; place = at }

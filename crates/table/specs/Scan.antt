@@ -1,16 +1,15 @@
 -- The file, record by record from the left (01: the first faulty record decides).
-use Rattle.std.specs.Prelude.{Bool, ◌||◌, cond, List, ℕ, zero, suc, ◌+◌, ltb, eqb, length, set, replicate}
+use Rattle.std.specs.Prelude.{Bool, ◌||◌, cond, List, ℕ, zero, suc, ◌+◌, ltb, eqb, length, set, replicate, Result, Ok, Err}
 use Rattle.layout.specs.declared.Kind.{Kind}
 use Rattle.layout.specs.declared.Kind.TheVariants.{Network, Processor, Task}
 use Rattle.verdict.specs.declared.Cause.{Cause}
 use Rattle.verdict.specs.declared.Cause.TheVariants.{Missing}
-use Rattle.verdict.specs.declared.Verdict.{Verdict}
-use Rattle.verdict.specs.declared.Verdict.TheVariants as verdicts
-use Rattle.table.specs.declared.Outcome.TheVariants.{Readable, Refused}
+use Rattle.verdict.specs.declared.Taken.{Taken}
 use Rattle.layout.specs.declared.Progress.{Progress}
-use Rattle.table.specs.declared.Scanned.{Scanned}
+use Rattle.table.specs.declared.Refusal.{Refusal}
 use Rattle.layout.specs.Format.{row, size, count}
 use Rattle.verdict.specs.Faults.{verdict}
+use Rattle.table.specs.Refusal.{refusal}
 
 -- before the first record
 abbrev pub no_records : Progress
@@ -20,25 +19,22 @@ no_records = record { counts = replicate 6 0; next = 0; hyperperiod = 1 }
 abbrev pub with_record : Progress → Kind → ℕ → Progress
 with_record x k h = record { counts = set x.counts (row k).order (count x k + 1); next = (row k).next; hyperperiod = h }
 
-abbrev pub refused_scan : Cause → ℕ → Scanned
-refused_scan cause at = record { outcome = Refused cause at; progress = no_records }
-
 -- 11: at the end no NT, PR or TK; the place is the length
 unfoldable pub missing : Progress → Bool
 missing x = eqb (count x Network) 0 || eqb (count x Processor) 0 || eqb (count x Task) 0
 
-unfoldable pub at_end : ℕ → Progress → Scanned
-at_end at x = cond (missing x) (refused_scan Missing at) (record { outcome = Readable; progress = x })
+unfoldable pub at_end : ℕ → Progress → Result Progress Refusal
+at_end at x = cond (missing x) (Err (refusal Missing at)) (Ok x)
 
 -- by the verdict on the record at a place: the refusal, or the rest of the file behind the record
-abbrev pub after : Verdict → ℕ → Progress → (ℕ → Progress → Scanned) → Scanned
-after (verdicts.Refused cause) at x rest = refused_scan cause at
-after (verdicts.Taken k h) at x rest = rest (at + size k) (with_record x k h)
+abbrev pub after : Result Taken Cause → ℕ → Progress → (ℕ → Progress → Result Progress Refusal) → Result Progress Refusal
+after (Err cause) at x rest = Err (refusal cause at)
+after (Ok t) at x rest = rest (at + size t.kind) (with_record x t.kind t.hyperperiod)
 
 -- at most as many records as the first number says; a file has fewer than it has bytes
-unfoldable pub scan_from : ℕ → List ℕ → ℕ → Progress → Scanned
+unfoldable pub scan_from : ℕ → List ℕ → ℕ → Progress → Result Progress Refusal
 scan_from zero s at x = at_end at x
 scan_from (suc n) s at x = cond (ltb at (length s)) (after (verdict s at x) at x (scan_from n s)) (at_end at x)
 
-unfoldable pub scan_of : List ℕ → Scanned
+unfoldable pub scan_of : List ℕ → Result Progress Refusal
 scan_of s = scan_from (length s) s 0 no_records

@@ -1,12 +1,11 @@
 -- The table of a file: each number stands where 01, "The table file", puts it.
-use Rattle.std.specs.Prelude.{List, [], ◌∷◌, ◌++◌, ℕ, zero, suc, ltb}
+use Rattle.std.specs.Prelude.{List, [], ◌∷◌, ◌++◌, ℕ, zero, suc, ltb, Result, Ok, Err}
 use Rattle.finite.specs.Finite.{only}
 use Rattle.layout.specs.declared.Kind.{Kind}
 use Rattle.layout.specs.declared.Kind.TheVariants.{Network, Processor, Task, CoResident, Exclusive, Message}
 use Rattle.layout.specs.declared.Progress.{Progress}
 use Rattle.layout.specs.Format.{field, count, place}
-use Rattle.table.specs.declared.Outcome.{Outcome}
-use Rattle.table.specs.declared.Outcome.TheVariants.{Readable, Refused}
+use Rattle.table.specs.declared.Refusal.{Refusal}
 use Rattle.table.specs.declared.Table.{Table}
 use Rattle.table.specs.declared.Processors.{Processors}
 use Rattle.table.specs.declared.Tasks.{Tasks}
@@ -14,8 +13,7 @@ use Rattle.table.specs.declared.Groups.{Groups}
 use Rattle.table.specs.declared.Messages.{Messages}
 use Rattle.table.specs.declared.Width.{Width}
 use Rattle.table.specs.declared.Width.TheVariants.{One, Two, Four}
-use Rattle.table.specs.declared.Reading.{Reading}
-use Rattle.table.specs.Scan.{scan_of, no_records}
+use Rattle.table.specs.Scan.{scan_of}
 
 -- f 0, .., f (n - 1), then zeros, as many places in all as the first number says
 unfoldable pub column : ℕ → ℕ → (ℕ → ℕ) → List ℕ
@@ -69,14 +67,11 @@ table_of s x = record {
   hyperperiod = x.hyperperiod;
 }
 
--- the table of a file that was not read
-unfoldable pub empty_table : Table
-empty_table = table_of [] no_records
-
-abbrev pub reading_by : Outcome → List ℕ → Progress → Reading
-reading_by Readable s x = record { outcome = Readable; table = table_of s x }
-reading_by (Refused cause at) s x = record { outcome = Refused cause at; table = empty_table }
+-- the table of a file with the records that its scan took
+abbrev pub reading_by : List ℕ → Result Progress Refusal → Result Table Refusal
+reading_by s (Ok x) = Ok (table_of s x)
+reading_by s (Err r) = Err r
 
 -- what is read of a file: its table, or the first cause to refuse it and the place (01, "Refused input")
-unfoldable pub read_of : List ℕ → Reading
-read_of s = reading_by (scan_of s).outcome s (scan_of s).progress
+unfoldable pub read_of : List ℕ → Result Table Refusal
+read_of s = reading_by s (scan_of s)

@@ -6,26 +6,19 @@ ghost use Rattle.finite.specs.Finite.{only};
 ghost use Rattle.wire.specs.Wire.{number};
 ghost use Rattle.layout.specs.Format.{row, size, count, Counted};
 ghost use Rattle.verdict.specs.Reached.{Reached};
-ghost use Rattle.table.specs.Scan.{no_records, with_record, refused_scan, at_end, scan_of};
-ghost use Rattle.table.specs.Table.{column, width_of, processor_columns, task_columns, message_columns, table_of, empty_table, read_of};
+ghost use Rattle.table.specs.Scan.{no_records, with_record, at_end, scan_of};
+ghost use Rattle.table.specs.Table.{column, width_of, processor_columns, task_columns, message_columns, table_of, read_of};
 ghost use Rattle.table.specs.Columns.{FieldIn, field_at, group_masks};
 ghost use Rattle.table.specs.declared.Width.TheVariants as Width;
 
 use layout::{Kind, Progress};
-use verdict::{Cause, Verdict};
+use verdict::{Cause, Taken};
 
-// Whether a file can be read.
+// Why something is refused: the first cause, and its place.
 #[derive(Clone, Copy)]
-pub enum Outcome {
-    Readable,
-    Refused(Cause, usize),
-}
-
-// On a refusal no record counts.
-#[derive(Clone, Copy)]
-pub struct Scanned {
-    pub outcome: Outcome,
-    pub progress: Progress,
+pub struct Refusal {
+    pub cause: Cause,
+    pub place: usize,
 }
 
 #[derive(Clone, Copy)]
@@ -72,13 +65,6 @@ pub struct Table {
     pub hyperperiod: u64,
 }
 
-// On a refusal the table is empty.
-#[derive(Clone, Copy)]
-pub struct Reading {
-    pub outcome: Outcome,
-    pub table: Table,
-}
-
 // The bytes of a number.
 #[derive(Clone, Copy)]
 pub enum Width {
@@ -97,66 +83,45 @@ fn no_records() -> Progress
     }
 }
 
-fn with_record(x: Progress, kind: Kind, hyperperiod: u64) -> Progress
-    requires { Counted x × (count x kind < (row kind).most) }
-    ensures { result ≡ with_record x kind hyperperiod }
+fn with_record(x: Progress, taken: Taken) -> Progress
+    requires { Counted x × (count x taken.kind < (row taken.kind).most) }
+    ensures { result ≡ with_record x taken.kind taken.hyperperiod }
 {
-    let shape = layout::shape_of(kind);
+    let shape = layout::shape_of(taken.kind);
     let order = shape.order;
-    let taken = x.counts[order];
+    let before = x.counts[order];
     let mut next = x;
-    next.counts[order] = taken + 1;
+    next.counts[order] = before + 1;
     next.next = shape.next;
-    next.hyperperiod = hyperperiod;
+    next.hyperperiod = taken.hyperperiod;
     next
 }
 
-fn refused(cause: Cause, at: usize) -> Scanned
-    ensures { result ≡ refused_scan cause at }
-{
-    Scanned {
-        outcome: Outcome::Refused(cause, at),
-        progress: no_records(),
-    }
-}
-
 // Where the file ends, there must be a record of each of the first three kinds.
-fn at_end(at: usize, x: Progress) -> Scanned
+#[tactic(auto, unfolding(crate::specs::Scan::at_end, crate::specs::Scan::missing))]
+fn at_end(at: usize, x: Progress) -> Result<Progress, Refusal>
     ensures { result ≡ at_end at x }
 {
-    if x.counts[0] == 0 {
-        return refused(Cause::Missing, at);
+    if x.counts[0] == 0 || x.counts[1] == 0 || x.counts[2] == 0 {
+        return Err(Refusal {
+            cause: Cause::Missing,
+            place: at,
+        });
     }
-    if x.counts[1] == 0 {
-        return refused(Cause::Missing, at);
-    }
-    if x.counts[2] == 0 {
-        return refused(Cause::Missing, at);
-    }
-    Scanned {
-        outcome: Outcome::Readable,
-        progress: x,
-    }
+    Ok(x)
 }
 
 // The records from the left, up to the first that is refused.
-fn scan(file: &[u8]) -> Scanned
+fn scan(file: &[u8]) -> Result<Progress, Refusal>
     ensures { result ≡ scan_of file.now }
 {
     let mut at: usize = 0;
     let mut x = no_records();
     while at < file.len() {
-        let verdict = verdict::verdict_at(file, at, x);
-        match verdict {
-            Verdict::Refused(cause) => {
-                return refused(cause, at);
-            }
-            Verdict::Taken(kind, hyperperiod) => {
-                let shape = layout::shape_of(kind);
-                x = with_record(x, kind, hyperperiod);
-                at += shape.size;
-            }
-        }
+        let taken = verdict::verdict_at(file, at, x).map_err(|cause| Refusal { cause, place: at })?;
+        let shape = layout::shape_of(taken.kind);
+        x = with_record(x, taken);
+        at += shape.size;
     }
     at_end(at, x)
 }
@@ -188,10 +153,8 @@ fn fill(file: &[u8], x: Progress, kind: Kind, offset: usize, width: Width, out: 
     requires { FieldIn file.now x kind offset width }
     ensures { out.new ≡ column (length out.old) (count x kind) (field_at file.now x kind offset width) }
 {
-    let mut j: usize = 0;
-    while j < out.len() {
+    for j in 0..out.len() {
         out[j] = entry(file, x, kind, offset, width, j);
-        j += 1;
     }
 }
 
@@ -290,58 +253,10 @@ fn table_of(file: &[u8], x: Progress) -> Table
     }
 }
 
-fn empty() -> Table
-    ensures { result ≡ empty_table }
-{
-    Table {
-        capacity: 0,
-        processors: Processors {
-            count: 0,
-            memory: [0; 8],
-            limit: [0; 8],
-        },
-        tasks: Tasks {
-            count: 0,
-            c: [0; 24],
-            t: [0; 24],
-            d: [0; 24],
-            memory: [0; 24],
-            priority: [0; 24],
-            residence: [0; 24],
-        },
-        co: Groups {
-            count: 0,
-            mask: [0; 16],
-        },
-        ex: Groups {
-            count: 0,
-            mask: [0; 16],
-        },
-        messages: Messages {
-            count: 0,
-            sender: [0; 64],
-            receiver: [0; 64],
-            amount: [0; 64],
-        },
-        hyperperiod: 1,
-    }
-}
-
 // The table of a file, or the first cause to refuse the file and its place.
-pub fn read(file: &[u8]) -> Reading
+pub fn read(file: &[u8]) -> Result<Table, Refusal>
     ensures { result ≡ read_of file.now }
 {
-    let scanned = scan(file);
-    let outcome = scanned.outcome;
-    let x = scanned.progress;
-    match outcome {
-        Outcome::Readable => Reading {
-            outcome,
-            table: table_of(file, x),
-        },
-        Outcome::Refused(_, _) => Reading {
-            outcome,
-            table: empty(),
-        },
-    }
+    let x = scan(file)?;
+    Ok(table_of(file, x))
 }

@@ -1,5 +1,6 @@
 -- The numbers of a judgement are small, and so is the place of a refusal. Assumes nothing.
-use mathlib.Core.Path.{◌≡◌, refl}
+use mathlib.Core.Path.{◌≡◌, refl, subst}
+use Rattle.std.specs.Prelude.{Result, Ok, Err}
 use mathlib.Core.Bool.{Bool, true, false, cond}
 use mathlib.Core.List.{List}
 use Prim.Native.Nat.{ℕ, ◌+◌, ◌*◌, ◌≤◌, ◌<◌}
@@ -8,15 +9,12 @@ use native.Mathlib.Decide.{dec_lt}
 use lib.Dec.{leb, ltb, leb→le}
 use lib.ListN.{length, get_or}
 use Rattle.finite.proofs.Only.{only_le}
-use Rattle.finite.proofs.Stored.{zeros}
 use Rattle.finite.proofs.Tabulate.{length_tabulate}
 use Rattle.wire.specs.Wire.{Bytes}
 use Rattle.layout.specs.Format.{longest}
 use Rattle.layout.proofs.Places.{longest_is}
-use Rattle.verdict.specs.declared.Cause.{Cause}
 use Rattle.verdict.specs.declared.Cause.TheVariants.{ShortAnswer}
-use Rattle.table.specs.declared.Outcome.{Outcome}
-use Rattle.table.specs.declared.Outcome.TheVariants as outcomes
+use Rattle.table.specs.declared.Refusal.{Refusal}
 use Rattle.table.specs.declared.Table.{Table}
 use Rattle.table.specs.Sound.{Sound}
 use Rattle.table.specs.Table.{read_of}
@@ -29,18 +27,14 @@ use Rattle.schedule.specs.Response.{worst_response, response}
 use Rattle.timing.specs.Timing.{tasks_in}
 use Rattle.rules.specs.declared.Rule.{Rule}
 use Rattle.rules.specs.declared.Rule.TheVariants.{Residence, CoResidence, Exclusion, Memory, Utilisation, Network, Deadline}
-use Rattle.rules.specs.declared.Check.{Check}
 use Rattle.rules.specs.Placement.{placed}
-use Rattle.rules.specs.Rules.{concerned}
+use Rattle.rules.specs.Rules.{concerned, Check}
 use Rattle.rules.specs.Sets.{missed}
 use Rattle.rules.proofs.Order.{Finds, none, one, first_broken_lem}
-use Rattle.judge.specs.declared.Judgement.{Judgement}
-use Rattle.judge.specs.declared.Judgement.TheVariants as judgements
 use Rattle.judge.specs.declared.Judged.{Judged}
-use Rattle.judge.specs.Judge.{alongside, response_of, responses_of, margin_at, margins_of, judgement_by, concerned_of, judged_on, judged_by, judge_of}
+use Rattle.judge.specs.Judge.{alongside, response_of, responses_of, margin_at, margins_of, Judgement, check_concerned, judged_placement, judged_on, judged_by, judge_of}
 use Rattle.judge.proofs.Meaning.{Judging, judging, of_length, of_byte, of_rules}
-use Rattle.task_report.specs.declared.Answer.TheVariants.{Refused, Written}
-use Rattle.task_report.specs.Report.{report_by, report_answer}
+use Rattle.task_report.specs.Report.{tasks_read, report_on, report_answer}
 use Rattle.task_report.specs.Small.{Small}
 
 -- ---- the numbers of a judgement
@@ -59,7 +53,7 @@ module _ {t : Table} (s : Sound t) where
   concerned_most Network = omega arith
   concerned_most Deadline = s.tasks.most
 
-  check_most : {on : ℕ → ℕ → Bool} {late : ℕ → Bool} {low : ℕ} {c : Check} → Finds t on late low c → concerned_of (judgement_by c) ≤ longest
+  check_most : {on : ℕ → ℕ → Bool} {late : ℕ → Bool} {low : ℕ} {c : Check} → Finds t on late low c → check_concerned c ≤ longest
   check_most (none f) = omega arith
   check_most (one {r = r} w) = omega (arith, w.within, concerned_most r, longest_is)
 
@@ -75,32 +69,36 @@ module _ {t : Table} (s : Sound t) where
   unfolding margins_of
   margins_long q = length_tabulate 24 (margin_at t.tasks.count (tasks_in t) q)
 
-  pub judged_small : (q : List ℕ) → Small (judged_on t q)
-  judged_small q = go (judging t q)
-    where
-      go : {j : Judged} → Judging t q j → Small j
-      go (of_length d) = record { concerned = omega arith; responses = λ k. omega (arith, zeros 24 k); margins = refl }
-      go (of_byte u) = record { concerned = omega (arith, u.inside, u.long, s.tasks.most, longest_is); responses = λ i. omega (arith, zeros 24 i); margins = refl }
-      go (of_rules w) = record { concerned = check_most (first_broken_lem t (placed q) (missed (responses_of t q))); responses = responses_most q; margins = margins_long q }
+  judging_small : {q : List ℕ} {r : Judgement} {j : Judged} → Judging t q r → r ≡ Ok j → Small j
+  judging_small (of_length d) e = absurd (let z : ◌≡◌ {A = ℕ} 0 1 = cc in omega arith)
+  judging_small (of_byte u) e = absurd (let z : ◌≡◌ {A = ℕ} 0 1 = cc in omega arith)
+  judging_small {q} {j = j} (of_rules w) e =
+      let same : judged_placement t q ≡ j = cc in
+      subst Small same (record { concerned = check_most (first_broken_lem t (placed q) (missed (responses_of t q))); responses = responses_most q; margins = margins_long q })
+
+  pub judged_small : (q : List ℕ) {j : Judged} → judged_on t q ≡ Ok j → Small j
+  judged_small q e = judging_small (judging t q) e
+
+  -- the place of a judgement's refusal
+  place_of : {q : List ℕ} {j : Judgement} {r : Refusal} → Judging t q j → j ≡ Err r → r.place ≤ longest
+  place_of {r = r} (of_length d) e = let z : 0 ≡ r.place = cc in omega arith
+  place_of {r = r} (of_byte {k = k} u) e = let z : k ≡ r.place = cc in omega (arith, u.inside, u.long, s.tasks.most, longest_is)
+  place_of (of_rules w) e = absurd (let z : ◌≡◌ {A = ℕ} 0 1 = cc in omega arith)
 
 -- ---- the place of a refusal
 
-pub answer_place : (file : List ℕ) → Bytes file → (q : List ℕ) (room : ℕ) (cause : Cause) (place : ℕ) → report_answer file q room ≡ Refused cause place → place ≤ longest
+pub answer_place : (file : List ℕ) → Bytes file → (q : List ℕ) (room : ℕ) (r : Refusal) → report_answer file q room ≡ Err r → r.place ≤ longest
 unfolding report_answer judge_of
-answer_place file b q room cause place e = go (read_of file).outcome refl e
+answer_place file b q room r e = go (read_of file) refl e
   where
-    n : ℕ
-    n = (read_of file).table.tasks.count
+    by_room : (short : Bool) (n : ℕ) → ◌≡◌ {A = Result ℕ Refusal} (cond short (Err (record { cause = ShortAnswer; place = 0 })) (Ok n)) (Err r) → r.place ≤ longest
+    by_room true n h = let z : 0 ≡ r.place = cc in omega arith
+    by_room false n h = absurd (let z : ◌≡◌ {A = ℕ} 0 1 = cc in omega arith)
 
-    by_room : (short : Bool) → cond short (Refused ShortAnswer 0) (Written (2 * n + 2)) ≡ Refused cause place → place ≤ longest
-    by_room true h = let z : 0 ≡ place = cc in omega arith
-    by_room false h = absurd (let z : ◌≡◌ {A = ℕ} 0 1 = cc in omega arith)
+    by : {t : Table} → Sound t → (j : Judgement) → judged_on t q ≡ j → report_on t.tasks.count j room ≡ Err r → r.place ≤ longest
+    by {t} s (Ok j) h a = by_room (ltb room (2 * t.tasks.count + 2)) (2 * t.tasks.count + 2) a
+    by {t} s (Err x) h a = let same : x.place ≡ r.place = cc in omega (arith, place_of s (judging t q) h)
 
-    by : (j : Judgement) → concerned_of j ≤ longest → report_by j n room ≡ Refused cause place → place ≤ longest
-    by (judgements.Refused c p) l h = let z : p ≡ place = cc in omega arith
-    by judgements.Kept l h = by_room (ltb room (2 * n + 2)) h
-    by (judgements.Broken r k) l h = by_room (ltb room (2 * n + 2)) h
-
-    go : (o : Outcome) → (read_of file).outcome ≡ o → report_by (judged_by o (read_of file).table q).judgement n room ≡ Refused cause place → place ≤ longest
-    go (outcomes.Refused c p) h a = by (judgements.Refused c p) (refused_place file c p h) a
-    go outcomes.Readable h a = by (judged_on (read_of file).table q).judgement (judged_small (read_sound file b h) q).concerned a
+    go : (x : Result Table Refusal) → read_of file ≡ x → report_on (tasks_read x) (judged_by x q) room ≡ Err r → r.place ≤ longest
+    go (Err x) h a = let same : x ≡ r = cc in subst (λ (y : Refusal). y.place ≤ longest) same (refused_place file h)
+    go (Ok t) h a = by (read_sound file b h) (judged_on t q) refl a

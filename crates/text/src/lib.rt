@@ -12,12 +12,9 @@ pub fn put(text: &mut [u8], at: usize, piece: &[u8]) -> usize
     requires { at + length piece.now ≤ length text.old }
     ensures { Put text.old at piece.now text.new result }
 {
-    let mut j: usize = 0;
-    while j < piece.len() {
-        text[at + j] = piece[j];
-        j += 1;
-    }
-    at + j
+    let end = at + piece.len();
+    text[at..end].copy_from_slice(piece);
+    end
 }
 
 // Puts the last `most` digits of a number.

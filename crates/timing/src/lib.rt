@@ -15,12 +15,10 @@ fn higher_than(priority: &[u32; 24], n: usize, i: usize) -> u32
     ensures { result ≡ higher_than n priority.now i }
 {
     let mut set: u32 = 0;
-    let mut j: usize = 0;
-    while j < n {
+    for j in 0..n {
         if priority[i] < priority[j] {
             set = mask::insert(set, j);
         }
-        j += 1;
     }
     set
 }
@@ -31,11 +29,9 @@ fn higher(priority: &[u32; 24], n: usize) -> [u32; 24]
     ensures { result ≡ higher_of n priority.now }
 {
     let mut rows = [0u32; 24];
-    let mut i: usize = 0;
-    while i < n {
+    for i in 0..n {
         let row = higher_than(priority, n, i);
         rows[i] = row;
-        i += 1;
     }
     rows
 }
@@ -50,6 +46,12 @@ pub fn timing_of(table: Table) -> Timing
     let period = tasks.t;
     let deadline = tasks.d;
     let priority = tasks.priority;
-    let larger = higher(&priority, tasks.count);
-    [work, period, deadline, priority, larger]
+    let higher = higher(&priority, tasks.count);
+    Timing {
+        work,
+        period,
+        deadline,
+        priority,
+        higher,
+    }
 }

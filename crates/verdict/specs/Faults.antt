@@ -1,16 +1,13 @@
 -- The causes for which a record is refused (01, "Refused input"), a test for each, and their order.
-use Rattle.std.specs.Prelude.{Bool, true, false, not, cond, ◌&&◌, ◌||◌, List, ℕ, ◌+◌, leb, ltb, eqb, length}
+use Rattle.std.specs.Prelude.{Bool, true, false, not, cond, ◌&&◌, ◌||◌, List, ℕ, ◌+◌, leb, ltb, eqb, length, Option, Some, None, Result, Ok, Err}
 use Rattle.finite.specs.Finite.{some_below}
 use Rattle.mask.specs.Mask as mask
 use Rattle.lcm.specs.Lcm.{lcm}
 use Rattle.layout.specs.declared.Kind.{Kind}
 use Rattle.layout.specs.declared.Kind.TheVariants.{Network, Processor, Task, CoResident, Exclusive, Message}
-use Rattle.layout.specs.declared.Mark.{Mark}
-use Rattle.layout.specs.declared.Mark.TheVariants.{Known, Unknown}
 use Rattle.verdict.specs.declared.Cause.{Cause}
 use Rattle.verdict.specs.declared.Cause.TheVariants.{Cut, UnknownMark, OutOfOrder, TooMany, OutOfRange, NotInFile, PriorityUsed, PeriodsDiffer, MessageRepeated, HyperperiodTooLarge}
-use Rattle.verdict.specs.declared.Verdict.{Verdict}
-use Rattle.verdict.specs.declared.Verdict.TheVariants.{Taken, Refused}
+use Rattle.verdict.specs.declared.Taken.{Taken}
 use Rattle.layout.specs.declared.Progress.{Progress}
 use Rattle.layout.specs.Format.{row, size, field, kind_at, limit, execution_time, period, deadline, priority, residence, sender, receiver, amount, count, place}
 
@@ -89,11 +86,15 @@ hyperperiod_too_large s at x k = is k Task && ltb 1000000000 (hyperperiod_with s
 
 -- ---- the order: "mark cut (1), 2, record cut (1), then 3 to 10 rising"
 
-abbrev pub refuse : Bool → Cause → Verdict → Verdict
-refuse true c v = Refused c
+abbrev pub refuse : Bool → Cause → Result Taken Cause → Result Taken Cause
+refuse true c v = Err c
 refuse false c v = v
 
-unfoldable pub content_verdict : List ℕ → ℕ → Progress → Kind → Verdict
+-- no test refuses: the record's kind, and the hyperperiod with it
+abbrev pub taken : Kind → ℕ → Result Taken Cause
+taken k h = Ok (record { kind = k; hyperperiod = h })
+
+unfoldable pub content_verdict : List ℕ → ℕ → Progress → Kind → Result Taken Cause
 content_verdict s at x k =
     refuse (out_of_range s at k) OutOfRange
     (refuse (not_in_file s at x k) NotInFile
@@ -101,18 +102,18 @@ content_verdict s at x k =
     (refuse (periods_differ s at x k) PeriodsDiffer
     (refuse (message_repeated s at x k) MessageRepeated
     (refuse (hyperperiod_too_large s at x k) HyperperiodTooLarge
-    (Taken k (hyperperiod_with s at x k)))))))
+    (taken k (hyperperiod_with s at x k)))))))
 
-unfoldable pub record_verdict : List ℕ → ℕ → Progress → Kind → Verdict
+unfoldable pub record_verdict : List ℕ → ℕ → Progress → Kind → Result Taken Cause
 record_verdict s at x k =
     refuse (record_cut s at k) Cut
     (refuse (out_of_order x k) OutOfOrder
     (refuse (too_many x k) TooMany
     (content_verdict s at x k)))
 
-abbrev pub mark_verdict : List ℕ → ℕ → Progress → Mark → Verdict
-mark_verdict s at x Unknown = Refused UnknownMark
-mark_verdict s at x (Known k) = record_verdict s at x k
+abbrev pub mark_verdict : List ℕ → ℕ → Progress → Option Kind → Result Taken Cause
+mark_verdict s at x None = Err UnknownMark
+mark_verdict s at x (Some k) = record_verdict s at x k
 
-unfoldable pub verdict : List ℕ → ℕ → Progress → Verdict
+unfoldable pub verdict : List ℕ → ℕ → Progress → Result Taken Cause
 verdict s at x = refuse (mark_cut s at) Cut (mark_verdict s at x (kind_at s at))

@@ -6,7 +6,7 @@ use native.Mathlib.Nat.{add-zero, le_dest}
 use native.Mathlib.Numerals.{add-one}
 use native.Mathlib.Omega.{arith}
 use lib.ListN.{length, get_or, take, drop, set, take-append-drop, length-append, length-drop}
-use lib.Seq.{take_at, drop_at, drop-drop, take-length, length-take-le, split_at, set_at, paste}
+use lib.Seq.{take_at, drop_at, drop-drop, length-take-le, split_at, set_at}
 use borrow.Rule.Slice.PartMut.{mid_of, put_mid}
 use Rattle.wire.specs.Wire.{laid, Put}
 use Rattle.wire.proofs.Part.{over}
@@ -78,15 +78,13 @@ put_byte old at b h = record {
   room = omega arith;
 }
 
--- as many bytes of a piece as a loop has copied
-pub put_copied : {old piece new : List ℕ} {at j : ℕ} → at + length piece ≤ length old → j ≡ length piece → new ≡ paste old at piece j → Put old at piece new (at + j)
+-- the part from `at` on that a piece was copied into
+pub put_copied : {old piece part : List ℕ} {at : ℕ} → at + length piece ≤ length old → part ≡ piece → Put old at piece (put_mid at (at + length piece - at) old part) (at + length piece)
 unfolding laid
-put_copied {old} {piece} {new} {at} h e x = record {
+put_copied {old} {piece} {part} {at} h e = record {
   holds =
-      x
-      ∙ ap (λ (k : ℕ). (take at old ++ take k piece) ++ drop (at + k) old) e
-      ∙ ap (λ (z : List ℕ). (take at old ++ z) ++ drop (at + length piece) old) (take-length piece)
-      ∙ append_assoc (take at old) piece (drop (at + length piece) old);
-  ends = omega (arith, e);
-  room = omega (arith, e);
+      ap (λ (z : List ℕ). take at old ++ (z ++ drop (at + length piece - at) (drop at old))) e
+      ∙ ap (λ (z : List ℕ). take at old ++ (piece ++ z)) (drop-drop (at + length piece - at) at old ∙ ap (λ (k : ℕ). drop k old) (omega arith));
+  ends = omega arith;
+  room = h;
 }

@@ -8,7 +8,7 @@ ghost use Rattle.wire.specs.Wire.{number, mark_at, mark_bytes, record_bytes};
 fn byte(x: u8) -> u32
     ensures { (result ≡ x) × (result < 256) }
 {
-    x as u32
+    u32::from(x)
 }
 
 // The 8-bit number at a place.

@@ -1,9 +1,7 @@
 -- One round after another, each after the bounds before it. The measure is how many rounds are left, and one more while the region is not given up.
 use mathlib.Core.Path.{◌≡◌, refl, ◌∙◌}
-use mathlib.Core.Bool.{true, false}
 use Prim.Native.Nat.{ℕ, ◌<◌}
 use native.Mathlib.Omega.{arith}
-use borrow.Author.Rules.{rules}
 use Rattle.candidates.proofs.Choosing.{below_more, open_below}
 use Rattle.capacity_bound.proofs.Bounding.{weighable_then, bounded_not, bounded_then}
 use Rattle.descent.proofs.Moving.{begin_moves, after_later}
@@ -20,7 +18,7 @@ pub weigh-weighed-requires : goal.weigh-weighed-requires
 weigh-weighed-requires c =
     let z = c.requires in
     let b = c.loop-hopeless.invariant.2 z.0.0 z.0.1 z.0.2 z.0.3 in
-    ((z.0.0, z.0.1, weighable_then z.0.2 _ b.0, b.1), λ h. absurd (omega arith))
+    ((z.0.0, z.0.1, weighable_then z.0.2 _ b.0, b.1), λ f. absurd (f refl))
 
 pub loop-hopeless-smaller-then-hopeless : goal.loop-hopeless-smaller-then-hopeless
 loop-hopeless-smaller-then-hopeless c = rw (c.if-hopeless.true, c.loop-hopeless-test.true) (omega arith)

@@ -13,8 +13,8 @@ use Rattle.adaptive_bound.proofs.descend.Given as goal
 abbrev pub invariant-loop-hopeless : goal.invariant-loop-hopeless
 invariant-loop-hopeless l =
     (length l.list ≡ length l.initial.list) × Moves l.descent
-    × Gives l.sizes l.timing l.rows l.messages (λ t. Weighable t l.mode l.s l.sets l.initial.list l.count) (λ t. LearntOf t l.initial.list l.count l.rows l.initial.lateness l.initial.bounds)
-    (λ t. BoundedAs t l.mode l.s l.initial.list l.count l.list (record { hopeless = l.hopeless; count = l.listed }) × LearntOf t l.list l.listed l.rows l.lateness l.bounds)
+    × Gives l.instance (λ t. Weighable t l.mode l.s l.sets l.initial.list l.count) (λ t. LearntOf t l.initial.list l.count l.instance.rows l.initial.caches.lateness l.initial.caches.bounds)
+    (λ t. BoundedAs t l.mode l.s l.initial.list l.count l.list (record { hopeless = l.hopeless; count = l.listed }) × LearntOf t l.list l.listed l.instance.rows l.caches.lateness l.caches.bounds)
 
 abbrev pub decreases-loop-hopeless : goal.decreases-loop-hopeless
 decreases-loop-hopeless l = cond l.hopeless 0 (l.descent.rounds + 1)

@@ -1,9 +1,7 @@
 -- Every processor is passed over, one after the other from the first on; or the search ends at one of them. The tasks left fall with each call.
 use native.Mathlib.Omega.{arith}
-use borrow.Author.Rules.{rules}
 use borrow.Author.Tests.{not-true, not-false}
 use mathlib.Core.Path.{refl, sym, ◌∙◌}
-use Prim.Native.Nat.{◌-◌}
 use Rattle.symmetry.proofs.Asking.{asks}
 use Rattle.backtrack.proofs.Backtracking.{backtracked_neither, backtracked_end, bounded_begins, bounded_hopeless, bounded_then}
 use Rattle.backtrack.proofs.Backtracking.{open_low, open_below, picked_waits, explored_narrowed, explored_symmetric, explored_closed, explored_begins, explored_falls, explored_open}
@@ -22,23 +20,23 @@ backtrack-bound-bounded-requires t c = c.requires
 pub backtrack-returns-then-bounded : goal.backtrack-returns-then-bounded
 backtrack-returns-then-bounded t c =
     λ u l b k. let m = c.bound-bounded.ensures.0 u l b k in
-    (bounded_hopeless c.bound-bounded.result m.0 c.if-bounded.true _, m.1)
+    (bounded_hopeless c.bound-bounded.result m.0 c.if-bounded.true, m.1)
 
-pub backtrack-branch-timing-requires : goal.backtrack-branch-timing-requires
-backtrack-branch-timing-requires t c =
+pub backtrack-branch-instance-requires : goal.backtrack-branch-instance-requires
+backtrack-branch-instance-requires t c =
     let a = c.requires in
     let b = a in
     let m = c.bound-bounded.ensures.0 b.0 b.1 b.2 b.3 in
     (omega (arith, c.decreases), ((b.0, b.1, bounded_begins c.bound-bounded.result m.0 b.2, m.1), omega (arith, c.if-s-eq0.false)))
 
 pub backtrack-shape_of-list : goal.backtrack-shape_of-list
-backtrack-shape_of-list t c = c.branch-timing.auto.list ∙ c.bound-bounded.auto.list
+backtrack-shape_of-list t c = c.branch-instance.auto.list ∙ c.bound-bounded.auto.list
 
 pub backtrack-returns : goal.backtrack-returns
 backtrack-returns t c =
     λ u l b k. let m = c.bound-bounded.ensures.0 u l b k in
-    let y = c.branch-timing.ensures u l (bounded_begins c.bound-bounded.result m.0 b) m.1 in
-    (bounded_then c.bound-bounded.result m.0 c.branch-timing.result y.0, y.1)
+    let y = c.branch-instance.ensures u l (bounded_begins c.bound-bounded.result m.0 b) m.1 in
+    (bounded_then c.bound-bounded.result m.0 c.branch-instance.result y.0, y.1)
 
 pub branch-pick-k-requires : goal.branch-pick-k-requires
 branch-pick-k-requires t c =
@@ -59,8 +57,8 @@ branch-turned-p-requires t c =
     let l = c.requires.0.1 in
     (c.offset-first.ensures, c.loop-i-test.true, omega (arith, l.rules.processors, l.rules.sound.processors.most))
 
-pub branch-explore-outcome-requires : goal.branch-explore-outcome-requires
-branch-explore-outcome-requires t c =
+pub branch-explore-explored-requires : goal.branch-explore-explored-requires
+branch-explore-explored-requires t c =
     let a = c.requires in
     let u = a.0.0 in
     let l = a.0.1 in
@@ -69,14 +67,14 @@ branch-explore-outcome-requires t c =
     let v = c.loop-i.invariant.2 u l b k in
     (omega (arith, c.decreases), ((u, l, backtracking_begins v.0 b, v.1), picked_waits l.rules.sound b.fits _ _ _ _ c.pick-k.ensures.0 a.1, c.turned-p.ensures.0))
 
-pub branch-shape_of-list-then-not-outcome : goal.branch-shape_of-list-then-not-outcome
-branch-shape_of-list-then-not-outcome t c = c.explore-outcome.auto.list ∙ c.loop-i.invariant.1
+pub branch-shape_of-list-in_default : goal.branch-shape_of-list-in_default
+branch-shape_of-list-in_default t c = c.explore-explored.auto.list ∙ c.loop-i.invariant.1
 
-pub branch-returns-then-not-outcome : goal.branch-returns-then-not-outcome
-branch-returns-then-not-outcome t c =
+pub branch-returns-in_default : goal.branch-returns-in_default
+branch-returns-in_default t c =
     λ u l b k. let v = c.loop-i.invariant.2 u l b k in
-    let e = c.explore-outcome.ensures u l (backtracking_begins v.0 b) v.1 in
-    (backtracking_stop v.0 c.explore-outcome.result e.0 (not-true c.explore-outcome.result.none c.if-not-outcome.true), e.1)
+    let e = c.explore-explored.ensures u l (backtracking_begins v.0 b) v.1 in
+    (backtracking_stop v.0 c.explore-explored.result e.0 c.in_default.not-Nothing, e.1)
 
 pub branch-loop-i-smaller : goal.branch-loop-i-smaller
 branch-loop-i-smaller t c = omega (arith, c.loop-i-test.true)
@@ -85,10 +83,10 @@ pub branch-loop-i-preserved : goal.branch-loop-i-preserved
 branch-loop-i-preserved t c =
     let r = c.turned-p.ensures in (
       omega (arith, c.loop-i-test.true),
-      c.explore-outcome.auto.list ∙ c.loop-i.invariant.1,
+      c.explore-explored.auto.list ∙ c.loop-i.invariant.1,
       λ u l b k. let v = c.loop-i.invariant.2 u l b k in
-          let e = c.explore-outcome.ensures u l (backtracking_begins v.0 b) v.1 in
-          (backtracking_next v.0 c.explore-outcome.result e.0 r.0 r.1 (not-false c.explore-outcome.result.none c.if-not-outcome.false), e.1),
+          let e = c.explore-explored.ensures u l (backtracking_begins v.0 b) v.1 in
+          (backtracking_next v.0 c.explore-explored.result e.0 r.0 r.1 c.in-Nothing.is, e.1),
     )
 
 pub branch-blame-requires : goal.branch-blame-requires
@@ -104,7 +102,7 @@ pub branch-returns : goal.branch-returns
 branch-returns t c =
     λ u l b k. let v = c.loop-i.invariant.2 u l b k in
     let waits = picked_waits l.rules.sound b.fits _ _ _ _ c.pick-k.ensures.0 c.requires.1 in
-    (backtracking_end v.0 b.fits (omega (arith, c.loop-i-test.false)) (b.fits.open_task c.pick-k.result waits).0 l.rules.processors _, v.1)
+    (backtracking_end v.0 b.fits (omega (arith, c.loop-i-test.false)) (b.fits.open_task c.pick-k.result waits).0 l.rules.processors, v.1)
 
 pub explore-offset_bounds-s-p : goal.explore-offset_bounds-s-p
 explore-offset_bounds-s-p t c = let a = c.requires in let l = a.0.1.rules in record { fits = omega (arith, a.2, l.processors, l.sound.processors.most) }
@@ -119,7 +117,7 @@ pub explore-returns-then-not-has : goal.explore-returns-then-not-has
 explore-returns-then-not-has t c =
     λ u l b k. (
       explored_narrowed _ b (not-true c.args.mode.listing c.if-not-mode.true) c.requires.1 (omega (arith, c.requires.2, l.rules.processors))
-          (λ v. absurd (rw (sym c.has.ensures ∙ c.if-not-has.true) at v)) _,
+          (λ v. absurd (rw (sym c.has.ensures ∙ c.if-not-has.true) at v)),
       k,
     )
 
@@ -128,22 +126,22 @@ explore-representative-requires t c = let a = c.requires in (a.0.0, asks a.0.1.r
 
 pub explore-returns-then-representative-p : goal.explore-returns-then-representative-p
 explore-returns-then-representative-p t c =
-    λ u l b k. (explored_symmetric _ b (c.representative.ensures u (asks l.rules b.fits c.requires.2)) c.if-representative-p.true _, k)
+    λ u l b k. (explored_symmetric _ b (c.representative.ensures u (asks l.rules b.fits c.requires.2)) c.if-representative-p.true, k)
 
 pub explore-enter-entered-requires : goal.explore-enter-entered-requires
 explore-enter-entered-requires t c = let a = c.requires in ((a.0.0, a.0.1, a.0.2, a.0.3.knows), a.1, a.2)
 
-pub explore-returns-then-not-entered : goal.explore-returns-then-not-entered
-explore-returns-then-not-entered t c =
+pub explore-returns-in_default : goal.explore-returns-in_default
+explore-returns-in_default t c =
     λ u l b k. let e = c.enter-entered.ensures u l b k.knows in
-    (explored_closed c.enter-entered.result e.0 (not-true c.enter-entered.result.passes c.if-not-entered.true) _, record { knows = e.1; keeps = k.keeps })
+    (explored_closed c.enter-entered.result e.0 c.in_default.is, record { knows = e.1; keeps = k.keeps })
 
 pub explore-backtrack-requires : goal.explore-backtrack-requires
 explore-backtrack-requires t c =
     let a = c.requires in
     let k = a.0.3 in
     let e = c.enter-entered.ensures a.0.0 a.0.1 a.0.2 k.knows in
-    let f = not-false c.enter-entered.result.passes c.if-not-entered.false in (
+    let f = c.in-Some.is in (
       omega (arith, c.decreases, explored_falls c.enter-entered.result e.0 f a.1),
       (a.0.0, a.0.1, explored_begins c.enter-entered.result e.0 f, record { knows = e.1; keeps = k.keeps }),
     )
@@ -151,6 +149,6 @@ explore-backtrack-requires t c =
 pub explore-returns : goal.explore-returns
 explore-returns t c =
     λ u l b k. let e = c.enter-entered.ensures u l b k.knows in
-    let f = not-false c.enter-entered.result.passes c.if-not-entered.false in
+    let f = c.in-Some.is in
     let x = c.backtrack.ensures u l (explored_begins c.enter-entered.result e.0 f) (record { knows = e.1; keeps = k.keeps }) in
     (explored_open c.enter-entered.result e.0 f c.backtrack.result x.0, x.1)

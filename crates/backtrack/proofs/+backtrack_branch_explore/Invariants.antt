@@ -10,12 +10,9 @@ use Rattle.backtrack.proofs.+backtrack_branch_explore.Given as goal
 
 abbrev pub invariant-branch-loop-i : goal.invariant-branch-loop-i
 invariant-branch-loop-i l =
-    (l.i ≤ l.sizes.processors) × (length l.list ≡ length l.initial.list)
-    × Gives l.sizes l.timing l.rows l.messages (λ t. Begins t l.mode l.s l.initial.list l.initial.at) (λ t. LearntOf t l.initial.list l.initial.at l.rows l.initial.lateness l.initial.bounds)
-    (λ t. Backtracking t l.mode l.s l.k l.initial.list l.initial.at l.first l.sizes.processors l.i l.list l.at × LearntOf t l.list l.at l.rows l.lateness l.bounds)
-
-abbrev pub decreases-branch-loop-i : goal.decreases-branch-loop-i
-decreases-branch-loop-i l = l.sizes.processors - l.i
+    (l.i ≤ l.instance.sizes.processors) × (length l.list ≡ length l.initial.list)
+    × Gives l.instance (λ t. Begins t l.mode l.s l.initial.list l.initial.at) (λ t. LearntOf t l.initial.list l.initial.at l.instance.rows l.initial.caches.lateness l.initial.caches.bounds)
+    (λ t. Backtracking t l.mode l.s l.k l.initial.list l.initial.at l.first l.instance.sizes.processors l.i l.list l.at × LearntOf t l.list l.at l.instance.rows l.caches.lateness l.caches.bounds)
 
 abbrev pub decreases-branch : goal.decreases-branch
 decreases-branch l = 3 * l.s.left + 1

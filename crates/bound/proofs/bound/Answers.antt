@@ -1,18 +1,9 @@
 -- Where nothing is listed, with the candidates of the state. Where conflicts are listed, without listing first; where that gives the region up, once more.
-use mathlib.Core.Path.{◌≡◌}
-use mathlib.Core.Bool.{true}
 use borrow.Author.Tests.{not-true}
 use Rattle.capacity_bound.proofs.Bounding.{bounded_not, bounded_then}
 use Rattle.bound.proofs.Bounding.{bounded_first, narrowed_weighable}
 use Rattle.bound.proofs.Noting.{adapted_then, heuristics_skipped, heuristics_tried}
-use Rattle.bound.proofs.bound.Lts as lts
-use Rattle.bound.proofs.bound.Reads as reads
-use Rattle.bound.proofs.bound.Tie as tie
 use Rattle.bound.proofs.bound.Goals as goal
-
--- the bound was due
-was_due : (e : lts.Else1 tie.the-claims reads.Pre reads.Post) → e.before.due.result ≡ true
-was_due e = e.if-not-due.false
 
 pub returns-then-not-due : goal.returns-then-not-due
 returns-then-not-due c =
@@ -30,7 +21,7 @@ returns-then-not-mode c =
     let d = c.due in
     let g = c.args in (
       λ t l b k. c.try_all-only.ensures.0 t l (narrowed_weighable g.mode b (not-true g.mode.listing c.if-not-mode.true)) k,
-      heuristics_tried g.s.left g.heuristics.now d.ensures.0 d.ensures.1 _ _ (was_due c.before.before.before.before.before.before.before.before.before.before.before.before.before) c.try_all-only.ensures.1 c.note.ensures,
+      heuristics_tried g.s.left g.heuristics.now d.ensures.0 d.ensures.1 _ _ (c.if-not-due.false) c.try_all-only.ensures.1 c.note.ensures,
     )
 
 pub try_tested-first-requires : goal.try_tested-first-requires
@@ -43,7 +34,7 @@ returns-then-not-first c =
       λ t l b k.
           let a = c.try_tested-first.ensures.0 t l (record { fits = b.fits; nogoods = b.nogoods }) k in
           (bounded_first g.mode c.try_tested-first.result a.0 (not-true c.try_tested-first.result.hopeless c.if-not-first.true), a.1),
-      heuristics_tried g.s.left g.heuristics.now d.ensures.0 d.ensures.1 _ _ (was_due c.before.before.before.before.before.before.before.before.before.before.before.before.before.before) c.try_tested-first.ensures.1 c.note-then-not-first.ensures,
+      heuristics_tried g.s.left g.heuristics.now d.ensures.0 d.ensures.1 _ _ (c.if-not-due.false) c.try_tested-first.ensures.1 c.note-then-not-first.ensures,
     )
 
 pub try_tested-second-requires : goal.try_tested-second-requires
@@ -61,5 +52,5 @@ returns c =
           let a = c.try_tested-first.ensures.0 t l (record { fits = b.fits; nogoods = b.nogoods }) k in
           let o = c.try_tested-second.ensures.0 t l (record { fits = b.fits; nogoods = a.0.list.nogoods }) a.1 in
           (bounded_then c.try_tested-first.result c.try_tested-second.result a.0 o.0, o.1),
-      heuristics_tried g.s.left g.heuristics.now d.ensures.0 d.ensures.1 _ _ (was_due c.before.before.before.before.before.before.before.before.before.before.before.before.before.before.before.before.before.before.before.before.before) m c.note-2.ensures,
+      heuristics_tried g.s.left g.heuristics.now d.ensures.0 d.ensures.1 _ _ (c.if-not-due.false) m c.note-2.ensures,
     )

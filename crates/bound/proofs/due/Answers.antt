@@ -21,13 +21,12 @@ pub returns-then-left-lt4 : goal.returns-then-left-lt4
 unfolding asked_heuristics
 returns-then-left-lt4 c = let few = lt-leb 4 (cardinality 32 c.args.left) (omega (arith, cardinality_ones 32 c.args.left (search rules))) in rw few (refl, refl)
 
-pub returns-then-heuristics-ne0 : goal.returns-then-heuristics-ne0
+pub returns-then-heuristics : goal.returns-then-heuristics
 unfolding asked_heuristics
-returns-then-heuristics-ne0 c =
-    let four = many c.before.before in
-    ⊎_elim (λ w. rw (four, ne_eqb _ _ w.if-heuristics-ne0.true) (refl, refl)) (λ w. rw (four, eq-eqb _ _ w.if-heuristics-ne0.false, ne_eqb _ _ w.if-heuristics-ne0-2.true) (refl, refl)) c.then-heuristics-ne0.branch-raw
+returns-then-heuristics c =
+    let four = many c.before in
+    ⊎_elim (λ w. rw (four, w.if-heuristics.true) (refl, refl)) (λ w. rw (four, w.if-heuristics.false, ne_eqb _ _ w.if-heuristics-ne0.true) (refl, refl)) c.then-heuristics.branch-raw
 
 pub returns : goal.returns
 unfolding asked_heuristics
-returns c =
-    rw (many c.before.before.before.before.before, eq-eqb _ _ c.if-heuristics-ne0.false, eq-eqb _ _ c.if-heuristics-ne0-2.false) (refl, refl)
+returns c = rw (many c.before.before.before, c.if-heuristics.false, eq-eqb _ _ c.if-heuristics-ne0.false) (refl, refl)

@@ -1,18 +1,17 @@
 -- One number is written, unless the run is weighted.
 use mathlib.Core.Path.{refl}
 use borrow.Author.Rules.{rules}
-use borrow.Author.Tests.{eq-eqb, ne_eqb}
 use Rattle.bound.specs.Due.{tried_heuristics}
 use Rattle.bound.proofs.note.Goals as goal
 
-pub credit-requires : goal.credit-requires
+pub credit-heuristics-requires : goal.credit-heuristics-requires
 unfolding tried_heuristics
-credit-requires c = search rules
+credit-heuristics-requires c = search rules
 
-pub returns-then-heuristics-eq0 : goal.returns-then-heuristics-eq0
+pub returns-then-not-heuristics : goal.returns-then-not-heuristics
 unfolding tried_heuristics
-returns-then-heuristics-eq0 c = rw (eq-eqb _ _ c.if-heuristics-eq0.true, c.credit.ensures) refl
+returns-then-not-heuristics c = rw (c.if-not-heuristics.true, c.credit-heuristics.ensures) refl
 
-pub returns-else-heuristics-eq0 : goal.returns-else-heuristics-eq0
+pub returns-else-not-heuristics : goal.returns-else-not-heuristics
 unfolding tried_heuristics
-returns-else-heuristics-eq0 c = rw (ne_eqb _ _ c.if-heuristics-eq0.false) refl
+returns-else-not-heuristics c = rw (c.if-not-heuristics.false) refl

@@ -1,6 +1,5 @@
 -- The network, then the weights.
 use native.Mathlib.Omega.{arith}
-use borrow.Author.Rules.{rules}
 use Rattle.partial.proofs.MessageSum.{small_messages}
 use Rattle.network_bound.proofs.Network.{crossing_as}
 use Rattle.bound.proofs.Bounding.{bounded_network}
@@ -18,11 +17,11 @@ returns-then-s-remote c = (
   adapted_same _ _ _,
 )
 
-pub returns-then-heuristics-ne0 : goal.returns-then-heuristics-ne0
-returns-then-heuristics-ne0 c =
+pub returns-then-heuristics : goal.returns-then-heuristics
+returns-then-heuristics c =
     let g = c.args in (
       c.refute.ensures.0,
-      adapted_row g.s.left g.heuristics.now _ c.if-heuristics-ne0.true c.refute.ensures.1,
+      adapted_row g.s.left g.heuristics.now _ c.if-heuristics.true c.refute.ensures.1,
     )
 
 pub returns : goal.returns

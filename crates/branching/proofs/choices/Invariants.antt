@@ -7,6 +7,3 @@ use Rattle.branching.proofs.choices.Given as goal
 
 abbrev pub invariant-loop-p : goal.invariant-loop-p
 invariant-loop-p l = Summing l.processors (λ r. has (get_or l.may r 0) l.k) (λ r. 1) 1 l.p l.found
-
-abbrev pub decreases-loop-p : goal.decreases-loop-p
-decreases-loop-p l = l.processors - l.p

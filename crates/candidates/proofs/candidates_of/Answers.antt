@@ -1,8 +1,6 @@
 -- The processors are looked at one after the other.
 use mathlib.Core.Path.{refl, ◌∙◌}
-use Prim.Native.Nat.{◌-◌}
 use native.Mathlib.Omega.{arith}
-use borrow.Author.Rules.{rules}
 use lib.ListN.{length-set}
 use Rattle.candidates.proofs.Choosing.{collecting_start, collecting_next, collecting_end}
 use Rattle.candidates.proofs.candidates_of.Goals as goal

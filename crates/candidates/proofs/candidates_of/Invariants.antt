@@ -11,9 +11,6 @@ use Rattle.candidates.proofs.candidates_of.Given as goal
 
 abbrev pub invariant-loop-p : goal.invariant-loop-p
 invariant-loop-p l =
-    (l.p ≤ l.sizes.processors) × (length l.sets ≡ 8) × (length l.list ≡ length l.initial.list)
-    × Gives l.sizes l.timing l.rows l.messages (λ t. Opens t l.s l.initial.list l.count) (λ t. KnownSets (tasks_in t) l.initial.list l.count l.initial.lateness)
+    (l.p ≤ l.instance.sizes.processors) × (length l.sets ≡ 8) × (length l.list ≡ length l.initial.list)
+    × Gives l.instance (λ t. Opens t l.s l.initial.list l.count) (λ t. KnownSets (tasks_in t) l.initial.list l.count l.initial.lateness)
     (λ t. Collecting t l.mode l.s l.initial.list l.count l.p l.sets l.list l.listed × KnownSets (tasks_in t) l.list l.listed l.lateness)
-
-abbrev pub decreases-loop-p : goal.decreases-loop-p
-decreases-loop-p l = l.sizes.processors - l.p

@@ -2,7 +2,6 @@
 use native.Mathlib.Omega.{arith}
 use mathlib.Core.Path.{ap}
 use mathlib.Core.Bool.{not}
-use borrow.Author.Rules.{rules}
 use Rattle.partial.proofs.Deciding.{free_at}
 use Rattle.region.proofs.Lending.{lent_tasks, limits_with}
 use Rattle.candidates.proofs.Choosing.{joins_broken, joins_tested}

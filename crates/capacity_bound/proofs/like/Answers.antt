@@ -1,5 +1,4 @@
 -- `like` meets its contract. Assumes nothing.
-use Prim.Native.Nat.{◌-◌}
 use native.Mathlib.Omega.{arith}
 use Rattle.capacity_bound.proofs.like.Goals as goal
 

@@ -1,9 +1,6 @@
 -- `like` meets its contract. Assumes nothing.
-use Prim.Native.Nat.{◌-◌, ◌≤◌}
+use Prim.Native.Nat.{◌≤◌}
 use Rattle.capacity_bound.proofs.like.Given as goal
 
 abbrev pub invariant-loop-r : goal.invariant-loop-r
 invariant-loop-r l = l.r ≤ l.p
-
-abbrev pub decreases-loop-r : goal.decreases-loop-r
-decreases-loop-r l = l.p - l.r

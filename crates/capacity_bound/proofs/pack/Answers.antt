@@ -1,6 +1,5 @@
 -- What the packing finds, by the table's rows.
 use native.Mathlib.Omega.{arith}
-use borrow.Author.Rules.{rules}
 use Rattle.region.proofs.Lending.{lent_tasks, lent_limits, set_below}
 use Rattle.candidates.proofs.Choosing.{below_more, eligible_below}
 use Rattle.capacity_bound.proofs.Weighted.{lower_is, weight_among}
@@ -19,7 +18,7 @@ most-packed-requires c =
     let l = z.0.1 in
     let b = eligible_below z.0.2.fits (z.0.2.eligible _ (rw (← l.rules.processors) z.1)) in (
       record { limits = lent_limits l (set_below z.0.2.fits.partial _); tasks = rw l.rules.tasks b; nogoods = rw (lent_tasks l) z.0.2.nogoods },
-      omega (arith, weight_among c.args.weights.now _ (below_more _ 24 _ l.rules.sound.tasks.most b) c.total-reach.ensures.0 c.args.sizes.tasks (rw l.rules.tasks b)),
+      omega (arith, weight_among c.args.weighting.now.weights _ (below_more _ 24 _ l.rules.sound.tasks.most b) c.total-reach.ensures.0 c.args.instance.now.sizes.tasks (rw l.rules.tasks b)),
       rw (lent_tasks l) z.0.3,
     )
 

@@ -1,15 +1,15 @@
 -- The bound that is kept, or what the packing finds, which is kept then.
+use mathlib.Core.Path.{sym, ◌∙◌}
 use native.Mathlib.Omega.{arith}
-use borrow.Author.Rules.{rules}
 use Rattle.bound_cache.proofs.Laws.{recalled, bound_cache_keep}
 use Rattle.capacity_bound.proofs.Weighted.{lower_is}
 use Rattle.capacity_bound.proofs.Tightening.{tight_recalled, tight_capped}
 use Rattle.capacity_bound.proofs.pack_once.Goals as goal
 
-pub returns-then-kept : goal.returns-then-kept
-returns-then-kept c = (
+pub returns-in-Some : goal.returns-in-Some
+returns-in-Some c = (
   λ t l w k. (
-    tight_recalled w.holds (rw (← l.rules.processors) c.requires.2) c.requires.3 (c.requires.1 c.requires.4) w.nogoods (recalled k.keeps c.recall-kept.ensures c.if-kept.true) (lower_is _ _ c.lower.ensures),
+    tight_recalled w.holds (rw (← l.rules.processors) c.requires.2) c.requires.3 (c.requires.1 c.requires.4) w.nogoods (recalled k.keeps (sym c.recall.ensures ∙ c.in-Some.is)) (lower_is _ _ c.lower.ensures),
     k,
   ),
   omega arith,
@@ -24,6 +24,6 @@ pub returns : goal.returns
 returns c = (
   λ t l w k.
       let a = c.pack-packed.ensures.0 t l w k.knows in
-      (a.0, record { knows = a.1; keeps = rw c.keep.ensures (bound_cache_keep _ _ _ _ _ _ k.keeps (tight_capped c.pack-packed.result c.requires.3 (c.requires.1 c.requires.4) a.0)) }),
+      (a.0, record { knows = a.1; keeps = rw c.keep.ensures (bound_cache_keep _ _ k.keeps (tight_capped c.pack-packed.result c.requires.3 (c.requires.1 c.requires.4) a.0)) }),
   c.pack-packed.ensures.1,
 )

@@ -1,7 +1,5 @@
 -- `sum_of` meets its contract. Assumes nothing.
 use mathlib.Core.Path.{refl}
-use mathlib.Core.Bool.{true}
-use Prim.Native.Nat.{◌-◌}
 use native.Mathlib.Omega.{arith}
 use Rattle.finite.proofs.SumLoop.{summing_start, summing_in, summing_end}
 use Rattle.capacity_bound.proofs.sum_of.Goals as goal

@@ -1,6 +1,7 @@
 -- The bound of an earlier processor that can take just what p can, or by packing.
+use mathlib.Core.Path.{sym, ◌∙◌}
+use mathlib.Core.Bool.{false≢true}
 use native.Mathlib.Omega.{arith}
-use borrow.Author.Rules.{rules}
 use Rattle.capacity_bound.proofs.Weighted.{lower_is}
 use Rattle.capacity_bound.proofs.Tightening.{tight_like}
 use Rattle.capacity_bound.proofs.tighten.Goals as goal
@@ -26,7 +27,7 @@ returns-then-mode c = let x = c.pack.ensures in (λ t l w m. let a = x.0 t l w m
 pub pack_once-requires : goal.pack_once-requires
 pack_once-requires c =
     let z = c.requires in
-    (z.0, z.1, z.2, c.if-mode.false, omega arith)
+    (z.0, z.1, z.2, c.if-mode.false, λ e. false≢true (sym c.if-eq.false ∙ (rw e at c.eq.ensures)))
 
 pub returns : goal.returns
 returns c = c.pack_once.ensures

@@ -2,12 +2,12 @@
 use Rattle.capacity_bound.proofs.Weighted.{lower_is, weight_among, top_all, top_room}
 use Rattle.capacity_bound.proofs.top.Goals as goal
 
-pub returns-then-row-eq0 : goal.returns-then-row-eq0
-returns-then-row-eq0 c = top_room _ _ (weight_among c.args.weights.now _ c.requires c.total-all.ensures.0) (λ w u v. u c.if-row-eq0.true) c.total-all.ensures.1 (lower_is _ _ c.lower.ensures)
+pub returns-in-Load : goal.returns-in-Load
+returns-in-Load c = top_room _ _ (weight_among c.args.weighting.now.weights _ c.requires c.total-all.ensures.0) (λ w u v. u c.in-Load.is) c.total-all.ensures.1 (lower_is _ _ c.lower.ensures)
 
-pub returns-then-row-eq1 : goal.returns-then-row-eq1
-returns-then-row-eq1 c =
-    top_room _ _ (weight_among c.args.weights.now _ c.requires c.total-all.ensures.0) (λ w u v. v c.if-row-eq1.true) c.total-all.ensures.1 (lower_is _ _ c.lower-then-row-eq1.ensures)
+pub returns-in-Memory : goal.returns-in-Memory
+returns-in-Memory c =
+    top_room _ _ (weight_among c.args.weighting.now.weights _ c.requires c.total-all.ensures.0) (λ w u v. v c.in-Memory.is) c.total-all.ensures.1 (lower_is _ _ c.lower-in-Memory.ensures)
 
-pub returns : goal.returns
-returns c = top_all _ _ (weight_among c.args.weights.now _ c.requires c.total-all.ensures.0) c.total-all.ensures.1
+pub returns-in_default : goal.returns-in_default
+returns-in_default c = top_all _ _ (weight_among c.args.weighting.now.weights _ c.requires c.total-all.ensures.0) c.total-all.ensures.1

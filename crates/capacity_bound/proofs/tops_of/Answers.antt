@@ -1,6 +1,5 @@
 -- `tops_of` meets its contract. Assumes nothing.
 use mathlib.Core.Path.{refl}
-use Prim.Native.Nat.{◌-◌}
 use native.Mathlib.Omega.{arith}
 use lib.ListN.{length-set}
 use Rattle.capacity_bound.proofs.Weighted.{topping_start, topping_next}

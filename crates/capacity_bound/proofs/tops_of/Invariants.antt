@@ -1,12 +1,9 @@
 -- `tops_of` meets its contract. Assumes nothing.
 use mathlib.Core.Path.{◌≡◌}
-use Prim.Native.Nat.{◌-◌, ◌≤◌}
+use Prim.Native.Nat.{◌≤◌}
 use lib.ListN.{length}
 use Rattle.capacity_bound.proofs.Weighted.{Topping}
 use Rattle.capacity_bound.proofs.tops_of.Given as goal
 
 abbrev pub invariant-loop-p : goal.invariant-loop-p
-invariant-loop-p l = (l.p ≤ l.m) × (length l.tops ≡ 8) × Topping l.weights l.sets l.row l.s l.p l.tops
-
-abbrev pub decreases-loop-p : goal.decreases-loop-p
-decreases-loop-p l = l.m - l.p
+invariant-loop-p l = (l.p ≤ l.m) × (length l.tops ≡ 8) × Topping l.weighting l.sets l.s l.p l.tops

@@ -1,8 +1,6 @@
 -- The processors' bounds are made tighter one after the other; their sum is known at each step.
 use mathlib.Core.Path.{refl, ◌∙◌}
-use Prim.Native.Nat.{◌-◌}
 use native.Mathlib.Omega.{arith}
-use borrow.Author.Rules.{rules}
 use lib.ListN.{get_or, length-set}
 use Rattle.finite.proofs.Only.{sum_bound}
 use Rattle.candidates.proofs.Choosing.{below_more, open_below, eligible_below}
@@ -110,7 +108,7 @@ returns c =
       λ t l w k.
           let a = g t l w k in
           let b = below_more _ 24 _ l.rules.sound.tasks.most (open_below w.fits) in
-          (tightening_end a.0 l.rules.sound w (rw (← l.rules.processors) c.loop-p.invariant.2) (weight_among c.args.weights.now _ b c.total-need.ensures.0 _ (open_below w.fits)), a.1),
-      omega (arith, c.gap_of.ensures, c.loop-p.invariant.2, y.processors, y.sound.processors.most, sum_bound c.args.sizes.processors (λ p. get_or c.loop-p.tops p 0) heaviest (λ p _. small p)),
+          (tightening_end a.0 l.rules.sound w (rw (← l.rules.processors) c.loop-p.invariant.2) (weight_among c.args.weighting.now.weights _ b c.total-need.ensures.0 _ (open_below w.fits)), a.1),
+      omega (arith, c.gap_of.ensures, c.loop-p.invariant.2, y.processors, y.sound.processors.most, sum_bound c.args.instance.now.sizes.processors (λ p. get_or c.loop-p.tops p 0) heaviest (λ p _. small p)),
       omega (arith, c.loop-p.invariant.0, c.loop-p.invariant.6, y.processors, y.sound.processors.most),
     )

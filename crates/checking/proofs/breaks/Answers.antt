@@ -2,7 +2,6 @@
 use mathlib.Core.Path.{refl, ◌∙◌}
 use native.Mathlib.Nat.{mul-le-mul}
 use native.Mathlib.Omega.{arith}
-use borrow.Author.Rules.{rules}
 use lib.Dec.{lt→ltb}
 use Rattle.mask.specs.Mask.{sum_over}
 use Rattle.table.specs.declared.Table.{Table}
@@ -50,10 +49,6 @@ pub bounds-co-k-in-CoResidence : goal.bounds-co-k-in-CoResidence
 unfolding residence_broken outside_of co_residence_broken exclusion_broken memory_broken memory_on memory_of utilisation_broken load_on load_of sum_over network_broken
 bounds-co-k-in-CoResidence c = omega (arith, rw c.in-CoResidence.is at c.requires.1, c.requires.0.co.most)
 
-pub stand_apart-requires : goal.stand_apart-requires
-unfolding residence_broken outside_of co_residence_broken exclusion_broken memory_broken memory_on memory_of utilisation_broken load_on load_of sum_over network_broken
-stand_apart-requires c = search rules
-
 pub offset_bounds-ex-k : goal.offset_bounds-ex-k
 unfolding residence_broken outside_of co_residence_broken exclusion_broken memory_broken memory_on memory_of utilisation_broken load_on load_of sum_over network_broken
 offset_bounds-ex-k c = record { fits = omega (arith, rw c.in-Exclusion.is at c.requires.1, c.requires.0.ex.most) }
@@ -61,10 +56,6 @@ offset_bounds-ex-k c = record { fits = omega (arith, rw c.in-Exclusion.is at c.r
 pub bounds-ex-k : goal.bounds-ex-k
 unfolding residence_broken outside_of co_residence_broken exclusion_broken memory_broken memory_on memory_of utilisation_broken load_on load_of sum_over network_broken
 bounds-ex-k c = omega (arith, rw c.in-Exclusion.is at c.requires.1, c.requires.0.ex.most)
-
-pub stand_together-requires : goal.stand_together-requires
-unfolding residence_broken outside_of co_residence_broken exclusion_broken memory_broken memory_on memory_of utilisation_broken load_on load_of sum_over network_broken
-stand_together-requires c = search rules
 
 pub offset_bounds-processors-k : goal.offset_bounds-processors-k
 unfolding residence_broken outside_of co_residence_broken exclusion_broken memory_broken memory_on memory_of utilisation_broken load_on load_of sum_over network_broken
@@ -74,10 +65,6 @@ pub bounds-processors-k : goal.bounds-processors-k
 unfolding residence_broken outside_of co_residence_broken exclusion_broken memory_broken memory_on memory_of utilisation_broken load_on load_of sum_over network_broken
 bounds-processors-k c = omega (arith, rw c.in-Memory.is at c.requires.1, c.requires.0.processors.most)
 
-pub wide-requires : goal.wide-requires
-unfolding residence_broken outside_of co_residence_broken exclusion_broken memory_broken memory_on memory_of utilisation_broken load_on load_of sum_over network_broken
-wide-requires c = search rules
-
 pub offset_bounds-sets-k : goal.offset_bounds-sets-k
 unfolding residence_broken outside_of co_residence_broken exclusion_broken memory_broken memory_on memory_of utilisation_broken load_on load_of sum_over network_broken
 offset_bounds-sets-k c = record { fits = omega (arith, rw c.in-Memory.is at c.requires.1, c.requires.0.processors.most) }
@@ -85,10 +72,6 @@ offset_bounds-sets-k c = record { fits = omega (arith, rw c.in-Memory.is at c.re
 pub bounds-sets-k : goal.bounds-sets-k
 unfolding residence_broken outside_of co_residence_broken exclusion_broken memory_broken memory_on memory_of utilisation_broken load_on load_of sum_over network_broken
 bounds-sets-k c = omega (arith, rw c.in-Memory.is at c.requires.1, c.requires.0.processors.most)
-
-pub memory_of-requires : goal.memory_of-requires
-unfolding residence_broken outside_of co_residence_broken exclusion_broken memory_broken memory_on memory_of utilisation_broken load_on load_of sum_over network_broken
-memory_of-requires c = search rules
 
 pub offset_bounds-sets-k-in-Utilisation : goal.offset_bounds-sets-k-in-Utilisation
 unfolding residence_broken outside_of co_residence_broken exclusion_broken memory_broken memory_on memory_of utilisation_broken load_on load_of sum_over network_broken
@@ -121,10 +104,6 @@ unfolding residence_broken outside_of co_residence_broken exclusion_broken memor
 overflow_mul-result c =
     let h = c.args.t.hyperperiod in
     record { fits = omega (arith, mul-le-mul {n₁ = c.wide-in-Network.result} {m₁ = h} {n₂ = 4294967295} {m₂ = 1000000000} (omega (arith, c.wide-in-Network.ensures)) c.requires.0.hyperperiod_most) }
-
-pub traffic_of-requires : goal.traffic_of-requires
-unfolding residence_broken outside_of co_residence_broken exclusion_broken memory_broken memory_on memory_of utilisation_broken load_on load_of sum_over network_broken
-traffic_of-requires c = search rules
 
 pub offset_bounds-responses-k : goal.offset_bounds-responses-k
 unfolding residence_broken outside_of co_residence_broken exclusion_broken memory_broken memory_on memory_of utilisation_broken load_on load_of sum_over network_broken

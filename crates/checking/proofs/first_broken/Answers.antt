@@ -1,37 +1,44 @@
 -- `first_broken` meets its contract. Assumes nothing.
-use borrow.Author.Rules.{rules}
+use Rattle.std.proofs.lemmas.Result.{err_from_is_err_and}
 use Rattle.rules.specs.Rules.{first_broken}
 use Rattle.checking.proofs.first_broken.Goals as goal
 
-pub check_rule-deadline-requires : goal.check_rule-deadline-requires
+pub returns-in_err-check_rule : goal.returns-in_err-check_rule
 unfolding first_broken
-check_rule-deadline-requires c = search rules
+returns-in_err-check_rule c =
+    let p = err_from_is_err_and c.from_residual.result c.from_residual.ensures.1 in
+    rw (p.1, p.2, ← c.in_err-check_rule.ensures)
 
-pub check_rule-network-requires : goal.check_rule-network-requires
+pub returns-in_err-check_rule-2 : goal.returns-in_err-check_rule-2
 unfolding first_broken
-check_rule-network-requires c = search rules
+returns-in_err-check_rule-2 c =
+    let p = err_from_is_err_and c.from_residual-in_err-check_rule-2.result c.from_residual-in_err-check_rule-2.ensures.1 in
+    rw (p.1, p.2, ← c.in_ok-check_rule.ensures, ← c.in_err-check_rule-2.ensures)
 
-pub check_rule-utilisation-requires : goal.check_rule-utilisation-requires
+pub returns-in_err-check_rule-3 : goal.returns-in_err-check_rule-3
 unfolding first_broken
-check_rule-utilisation-requires c = search rules
+returns-in_err-check_rule-3 c =
+    let p = err_from_is_err_and c.from_residual-in_err-check_rule-3.result c.from_residual-in_err-check_rule-3.ensures.1 in
+    rw (p.1, p.2, ← c.in_ok-check_rule.ensures, ← c.in_ok-check_rule-2.ensures, ← c.in_err-check_rule-3.ensures)
 
-pub check_rule-memory-requires : goal.check_rule-memory-requires
+pub returns-in_err-check_rule-4 : goal.returns-in_err-check_rule-4
 unfolding first_broken
-check_rule-memory-requires c = search rules
+returns-in_err-check_rule-4 c =
+    let p = err_from_is_err_and c.from_residual-in_err-check_rule-4.result c.from_residual-in_err-check_rule-4.ensures.1 in
+    rw (p.1, p.2, ← c.in_ok-check_rule.ensures, ← c.in_ok-check_rule-2.ensures, ← c.in_ok-check_rule-3.ensures, ← c.in_err-check_rule-4.ensures)
 
-pub check_rule-exclusion-requires : goal.check_rule-exclusion-requires
+pub returns-in_err-check_rule-5 : goal.returns-in_err-check_rule-5
 unfolding first_broken
-check_rule-exclusion-requires c = search rules
+returns-in_err-check_rule-5 c =
+    let p = err_from_is_err_and c.from_residual-in_err-check_rule-5.result c.from_residual-in_err-check_rule-5.ensures.1 in
+    rw (p.1, p.2, ← c.in_ok-check_rule.ensures, ← c.in_ok-check_rule-2.ensures, ← c.in_ok-check_rule-3.ensures, ← c.in_ok-check_rule-4.ensures, ← c.in_err-check_rule-5.ensures)
 
-pub check_rule-co_residence-requires : goal.check_rule-co_residence-requires
+pub returns-in_err-check_rule-6 : goal.returns-in_err-check_rule-6
 unfolding first_broken
-check_rule-co_residence-requires c = search rules
-
-pub check_rule-requires : goal.check_rule-requires
-unfolding first_broken
-check_rule-requires c = search rules
+returns-in_err-check_rule-6 c =
+    let p = err_from_is_err_and c.from_residual-in_err-check_rule-6.result c.from_residual-in_err-check_rule-6.ensures.1 in
+    rw (p.1, p.2, ← c.in_ok-check_rule.ensures, ← c.in_ok-check_rule-2.ensures, ← c.in_ok-check_rule-3.ensures, ← c.in_ok-check_rule-4.ensures, ← c.in_ok-check_rule-5.ensures, ← c.in_err-check_rule-6.ensures)
 
 pub returns : goal.returns
 unfolding first_broken
-returns c =
-    rw (c.check_rule.ensures, c.check_rule-co_residence.ensures, c.check_rule-exclusion.ensures, c.check_rule-memory.ensures, c.check_rule-utilisation.ensures, c.check_rule-network.ensures, c.check_rule-deadline.ensures)
+returns c = rw (← c.in_ok-check_rule.ensures, ← c.in_ok-check_rule-2.ensures, ← c.in_ok-check_rule-3.ensures, ← c.in_ok-check_rule-4.ensures, ← c.in_ok-check_rule-5.ensures, ← c.in_ok-check_rule-6.ensures) c.check_rule-7.ensures

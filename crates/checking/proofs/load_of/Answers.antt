@@ -1,10 +1,10 @@
 -- `load_of` meets its contract. Assumes nothing.
 use mathlib.Core.Path.{refl, sym, ap, ◌∙◌}
 use mathlib.Core.Logic.{⊎_elim}
-use Prim.Native.Nat.{◌-◌, ◌<◌}
+use Prim.Native.Nat.{◌<◌}
 use native.Mathlib.Nat.{mul-le-mul, mul-le-mul_right}
 use native.Mathlib.Omega.{arith}
-use Rattle.mask.specs.Mask.{has, sum_over}
+use Rattle.mask.specs.Mask.{sum_over}
 use Rattle.load.specs.declared.Load.{Load}
 use Rattle.rules.specs.Sets.{load_of}
 use Rattle.load.proofs.Work.{work_le}

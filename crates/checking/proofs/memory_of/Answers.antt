@@ -1,10 +1,8 @@
 -- `memory_of` meets its contract. Assumes nothing.
 use mathlib.Core.Path.{sym, ◌∙◌}
 use mathlib.Core.Logic.{⊎_elim}
-use Prim.Native.Nat.{◌-◌}
 use native.Mathlib.Omega.{arith}
-use borrow.Author.Rules.{rules}
-use Rattle.mask.specs.Mask.{has, sum_over}
+use Rattle.mask.specs.Mask.{sum_over}
 use Rattle.rules.specs.Sets.{memory_of}
 use Rattle.finite.proofs.SumLoop.{summing_start, summing_in, summing_out, summing_end}
 use Rattle.checking.proofs.memory_of.Goals as goal
@@ -12,14 +10,6 @@ use Rattle.checking.proofs.memory_of.Goals as goal
 pub loop-k-init : goal.loop-k-init
 unfolding memory_of sum_over
 loop-k-init c = summing_start
-
-pub has-requires : goal.has-requires
-unfolding memory_of sum_over
-has-requires c = search rules
-
-pub wide-sum-requires : goal.wide-sum-requires
-unfolding memory_of sum_over
-wide-sum-requires c = search rules
 
 pub overflow_add-sum : goal.overflow_add-sum
 unfolding memory_of sum_over

@@ -1,6 +1,5 @@
 -- `stand_apart` meets its contract. Assumes nothing.
 use mathlib.Core.Bool.{◌&&◌}
-use Prim.Native.Nat.{◌-◌}
 use lib.ListN.{get_or}
 use Rattle.finite.proofs.Search.{Searched}
 use Rattle.rules.specs.Placement.{elsewhere}
@@ -9,6 +8,3 @@ use Rattle.checking.proofs.stand_apart.Given as goal
 
 abbrev pub invariant-loop-p : goal.invariant-loop-p
 invariant-loop-p l = Searched l.m (λ q. meets (get_or l.sets q 0) l.one && elsewhere l.m q (λ r. meets (get_or l.sets r 0) l.other)) l.p
-
-abbrev pub decreases-loop-p : goal.decreases-loop-p
-decreases-loop-p l = l.m - l.p

@@ -1,7 +1,5 @@
 -- `stand_together` meets its contract. Assumes nothing.
 use mathlib.Core.Path.{sym, ◌∙◌}
-use Prim.Native.Nat.{◌-◌}
-use borrow.Author.Rules.{rules}
 use Rattle.finite.proofs.Search.{search_start, search_next, some_found, some_missed}
 use Rattle.rules.specs.Sets.{two_of}
 use Rattle.checking.proofs.stand_together.Goals as goal
@@ -9,10 +7,6 @@ use Rattle.checking.proofs.stand_together.Goals as goal
 pub loop-p-init : goal.loop-p-init
 unfolding two_of
 loop-p-init c = search_start
-
-pub at_least_two-requires : goal.at_least_two-requires
-unfolding two_of
-at_least_two-requires c = search rules
 
 pub returns-then-at_least_two : goal.returns-then-at_least_two
 unfolding two_of

@@ -1,5 +1,4 @@
 -- `stand_together` meets its contract. Assumes nothing.
-use Prim.Native.Nat.{◌-◌}
 use lib.ListN.{get_or}
 use Rattle.finite.proofs.Search.{Searched}
 use Rattle.rules.specs.Sets.{two_of}
@@ -7,6 +6,3 @@ use Rattle.checking.proofs.stand_together.Given as goal
 
 abbrev pub invariant-loop-p : goal.invariant-loop-p
 invariant-loop-p l = Searched l.m (λ q. two_of l.group (get_or l.sets q 0)) l.p
-
-abbrev pub decreases-loop-p : goal.decreases-loop-p
-decreases-loop-p l = l.m - l.p

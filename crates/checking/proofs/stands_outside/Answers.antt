@@ -1,20 +1,13 @@
 -- `stands_outside` meets its contract. Assumes nothing.
 use mathlib.Core.Path.{sym, ◌∙◌}
-use mathlib.Core.Logic.{⊎_elim}
-use Prim.Native.Nat.{◌-◌}
-use borrow.Author.Rules.{rules}
 use Rattle.finite.proofs.Search.{search_start, search_next, some_found, some_missed}
-use Rattle.mask.specs.Mask.{has}
 use Rattle.rules.specs.Sets.{outside_of}
 use Rattle.checking.proofs.stands_outside.Goals as goal
+use Rattle.checking.proofs.stands_outside.Goals.{else-has-via-then-has+else-not-has, else-has-via-else-has}
 
 pub loop-p-init : goal.loop-p-init
 unfolding outside_of
 loop-p-init c = search_start
-
-pub has-requires : goal.has-requires
-unfolding outside_of
-has-requires c = search rules
 
 pub returns-then-not-has : goal.returns-then-not-has
 unfolding outside_of
@@ -25,10 +18,11 @@ returns-then-not-has c =
 pub loop-p-preserved : goal.loop-p-preserved
 unfolding outside_of
 loop-p-preserved c =
-    ⊎_elim
-    (λ w. search_next c.loop-p.invariant c.loop-p-test.true (simp (sym c.has.ensures ∙ w.if-has.true, sym w.has-then-has.ensures ∙ w.if-not-has.false)))
-    (λ w. search_next c.loop-p.invariant c.loop-p-test.true (simp (sym c.has.ensures ∙ w.if-has.false)))
-    c.if-has.branch-raw
+    elim c.else-has.branch [
+      | else-has-via-then-has+else-not-has w ↦
+          search_next c.loop-p.invariant c.loop-p-test.true (simp (sym c.has.ensures ∙ w.if-has.true, sym w.has-then-has.ensures ∙ w.if-not-has.false))
+      | else-has-via-else-has w ↦ search_next c.loop-p.invariant c.loop-p-test.true (simp (sym c.has.ensures ∙ w.if-has.false))
+    ]
 
 pub returns : goal.returns
 unfolding outside_of

@@ -1,24 +1,14 @@
 -- `traffic_of` meets its contract. Assumes nothing.
 use mathlib.Core.Path.{sym, ◌∙◌}
 use mathlib.Core.Logic.{⊎_elim}
-use Prim.Native.Nat.{◌-◌}
 use native.Mathlib.Omega.{arith}
-use borrow.Author.Rules.{rules}
-use Rattle.rules.specs.Rules.{crosses, traffic}
+use Rattle.rules.specs.Rules.{traffic}
 use Rattle.finite.proofs.SumLoop.{summing_start, summing_in, summing_out, summing_end}
 use Rattle.checking.proofs.traffic_of.Goals as goal
 
 pub loop-j-init : goal.loop-j-init
 unfolding traffic
 loop-j-init c = summing_start
-
-pub crosses-requires : goal.crosses-requires
-unfolding traffic
-crosses-requires c = search rules
-
-pub amount_of-sum-requires : goal.amount_of-sum-requires
-unfolding traffic
-amount_of-sum-requires c = search rules
 
 pub overflow_add-sum : goal.overflow_add-sum
 unfolding traffic

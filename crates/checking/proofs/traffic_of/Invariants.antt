@@ -1,5 +1,4 @@
 -- `traffic_of` meets its contract. Assumes nothing.
-use Prim.Native.Nat.{◌-◌}
 use Rattle.rules.specs.Rules.{crosses, amount_of}
 use Rattle.rules.specs.Sets.{standing}
 use Rattle.finite.proofs.SumLoop.{Summing}
@@ -7,6 +6,3 @@ use Rattle.checking.proofs.traffic_of.Given as goal
 
 abbrev pub invariant-loop-j : goal.invariant-loop-j
 invariant-loop-j l = Summing l.t.messages.count (crosses l.t (standing l.sets)) (amount_of l.t) 1000000000000000 l.j l.sum
-
-abbrev pub decreases-loop-j : goal.decreases-loop-j
-decreases-loop-j l = l.n - l.j

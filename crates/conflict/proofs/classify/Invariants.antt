@@ -4,8 +4,5 @@ use Rattle.schedule.specs.Arrays.{tasks_of}
 use Rattle.conflict.specs.Conflict.{Needed}
 use Rattle.conflict.proofs.classify.Given as goal
 
-abbrev pub invariant-loop-untried : goal.invariant-loop-untried
-invariant-loop-untried l = Visit 32 l.set l.untried (Needed (tasks_of l.n l.timing) l.set)
-
-abbrev pub decreases-loop-untried : goal.decreases-loop-untried
-decreases-loop-untried l = l.untried
+abbrev pub invariant-loop-k : goal.invariant-loop-k
+invariant-loop-k l = Visit l.set l.k-iterator.left (Needed (tasks_of l.n l.timing) l.set)

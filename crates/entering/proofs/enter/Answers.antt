@@ -1,7 +1,5 @@
 -- Where the test lets the task in, what may stand on each processor is narrowed.
 use native.Mathlib.Omega.{arith}
-use borrow.Author.Rules.{rules}
-use borrow.Author.Tests.{not-true, not-false}
 use Rattle.region.proofs.Narrowing.{begins_stands}
 use Rattle.entering.proofs.Tried.{entered_closed, entered_stands, entered_open}
 use Rattle.entering.proofs.enter.Goals as goal
@@ -9,17 +7,17 @@ use Rattle.entering.proofs.enter.Goals as goal
 pub admit-admitted-requires : goal.admit-admitted-requires
 admit-admitted-requires c = let a = c.requires in ((a.0.0, a.0.1, begins_stands a.0.2, a.0.3), a.1, a.2)
 
-pub returns-then-not-admitted : goal.returns-then-not-admitted
-returns-then-not-admitted c =
+pub returns-in_default : goal.returns-in_default
+returns-in_default c =
     λ t l b k. let a = c.admit-admitted.ensures t l (begins_stands b) k in
-    (entered_closed c.admit-admitted.result a.0 (not-true c.admit-admitted.result.passes c.if-not-admitted.true), a.1)
+    (entered_closed c.admit-admitted.result a.0 c.in_default.is, a.1)
 
 pub refresh-may-requires : goal.refresh-may-requires
 refresh-may-requires c =
     let z = c.requires in
     let l = z.0.1.rules in
     let a = c.admit-admitted.ensures z.0.0 z.0.1 (begins_stands z.0.2) z.0.3 in
-    let s = entered_stands c.admit-admitted.result a.0 (not-false c.admit-admitted.result.passes c.if-not-admitted.false) in (
+    let s = entered_stands c.admit-admitted.result a.0 c.in-Some.is in (
       (z.0.0, z.0.1, s.fits, a.1),
       omega (arith, s.nogoods.room),
       omega (arith, (z.0.2.fits.open_task _ z.1).0, l.sound.tasks.most),
@@ -29,6 +27,5 @@ refresh-may-requires c =
 pub returns : goal.returns
 returns c =
     λ t l b k. let a = c.admit-admitted.ensures t l (begins_stands b) k in
-    let passes = not-false c.admit-admitted.result.passes c.if-not-admitted.false in
-    let s = entered_stands c.admit-admitted.result a.0 passes in
-    (entered_open c.admit-admitted.result a.0 passes l b c.refresh-may.ensures.0, c.refresh-may.ensures.1 t l s.fits a.1)
+    let s = entered_stands c.admit-admitted.result a.0 c.in-Some.is in
+    (entered_open c.admit-admitted.result a.0 c.in-Some.is l b c.refresh-may.ensures.0, c.refresh-may.ensures.1 t l s.fits a.1)

@@ -10,12 +10,9 @@ use Rattle.first.proofs.+first.Given as goal
 
 abbrev pub invariant-loop-p : goal.invariant-loop-p
 invariant-loop-p l =
-    (l.p ≤ l.sizes.processors) × (length l.list ≡ length l.initial.list)
-    × Gives l.sizes l.timing l.rows l.messages (λ t. Placing t l.s l.k l.witness l.initial.list l.initial.at.count) (λ t. Learnt t l.rows l.initial.lateness l.initial.bounds)
-    (λ t. Passing t l.s l.k l.witness l.initial.list l.initial.at l.p l.list l.at × Learnt t l.rows l.lateness l.bounds)
-
-abbrev pub decreases-loop-p : goal.decreases-loop-p
-decreases-loop-p l = l.sizes.processors - l.p
+    (l.p ≤ l.instance.sizes.processors) × (length l.list ≡ length l.initial.list)
+    × Gives l.instance (λ t. Placing t l.s l.k l.witness l.initial.list l.initial.at.count) (λ t. Learnt t l.instance.rows l.initial.caches.lateness l.initial.caches.bounds)
+    (λ t. Passing t l.s l.k l.witness l.initial.list l.initial.at l.p l.list l.at × Learnt t l.instance.rows l.caches.lateness l.caches.bounds)
 
 abbrev pub decreases-first : goal.decreases-first
-decreases-first l = l.sizes.tasks - l.k
+decreases-first l = l.instance.now.sizes.tasks - l.k

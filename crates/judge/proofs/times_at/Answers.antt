@@ -1,31 +1,28 @@
 -- `times_at` meets its contract. Assumes nothing.
-use mathlib.Core.Path.{◌∙◌}
-use Prim.Native.Nat.{◌<◌}
+use Prim.Native.Nat.{ℕ, ◌<◌}
 use native.Mathlib.Omega.{arith}
+use mathlib.Core.List.{List}
+use mathlib.Core.Path.{◌∙◌}
 use borrow.Author.Tests.{lt-ltb, le-ltb}
 use lib.ListN.{get_or}
+use Rattle.schedule.specs.declared.Timing.{Timing}
 use Rattle.schedule.proofs.TasksOfArrays.{deadline_bound}
+use Rattle.judge.specs.Arrays.{Placed}
 use Rattle.judge.proofs.Limits.{times_placed}
-use Rattle.judge.proofs.times_at.Lts as lts
-use Rattle.judge.proofs.times_at.Reads as reads
-use Rattle.judge.proofs.times_at.Tie as tie
 use Rattle.judge.proofs.times_at.Goals as goal
 
 -- the byte names a processor
-known : (c : lts.Else1 tie.the-claims reads.Pre reads.Post) → get_or c.args.placement.now c.args.k 0 < 8
-known c = let w = c.requires in w.placeable.known _ (omega (arith, w.long, c.if-n-k.false))
+known : {n : ℕ} {timing : Timing} {q sets : List ℕ} → Placed n timing q sets → {k : ℕ} → k < n → get_or q k 0 < 8
+known w l = w.placeable.known _ (omega (arith, w.long))
 
 pub returns-then-n-k : goal.returns-then-n-k
 returns-then-n-k c = rw (le-ltb _ _ c.if-n-k.true)
 
-pub overflow_cast-p : goal.overflow_cast-p
-overflow_cast-p c = record { fits = omega (arith, known c.before.before) }
-
 pub offset_bounds-sets-p : goal.offset_bounds-sets-p
-offset_bounds-sets-p c = record { fits = omega (arith, known c.before.before) }
+offset_bounds-sets-p c = record { fits = omega (arith, c.from-p.ensures, known c.requires c.if-n-k.false) }
 
 pub bounds-sets-p : goal.bounds-sets-p
-bounds-sets-p c = known c.before.before
+bounds-sets-p c = omega (arith, c.from-p.ensures, known c.requires c.if-n-k.false)
 
 pub worst_response-worst-requires : goal.worst_response-worst-requires
 worst_response-worst-requires c = (c.requires.limits _, c.if-n-k.false)
@@ -35,5 +32,5 @@ margin_by-requires c = (deadline_bound (c.requires.limits 0) _ c.if-n-k.false, c
 
 pub returns : goal.returns
 returns c =
-    let both = times_placed c.requires c.args.k c.worst_response-worst.ensures.0 in
+    let both = times_placed c.requires c.args.k (rw c.from-p.ensures at c.worst_response-worst.ensures.0) in
     rw (lt-ltb _ _ c.if-n-k.false, c.margin_by.ensures ∙ both.1, c.response_by.ensures ∙ both.0)

@@ -1,20 +1,16 @@
 -- `times_of` meets its contract. Assumes nothing.
 use mathlib.Core.Path.{ap, ap₂}
 use mathlib.Core.List.{List}
-use Prim.Native.Nat.{ℕ, ◌-◌}
+use Prim.Native.Nat.{ℕ}
 use native.Mathlib.Omega.{arith}
-use borrow.Author.Rules.{rules}
+use lib.IntN.{ℤ}
+use Rattle.std.specs.Prelude.{Option}
 use Rattle.finite.proofs.Filling.{filled_start, filled_next, filled_end}
 use Rattle.table.proofs.Filling as filling
-use Rattle.judge.specs.declared.TaskMargin.{TaskMargin}
 use Rattle.judge.specs.declared.TaskTimes.{TaskTimes}
 use Rattle.judge.specs.Judge.{responses_of, margins_of}
 use Rattle.judge.proofs.Limits.{placed_of}
 use Rattle.judge.proofs.times_of.Goals as goal
-
-pub timing_of-timing-requires : goal.timing_of-timing-requires
-unfolding responses_of margins_of
-timing_of-timing-requires c = search rules
 
 pub loop-k-init : goal.loop-k-init
 unfolding responses_of margins_of
@@ -34,6 +30,6 @@ pub returns : goal.returns
 unfolding responses_of margins_of
 returns c =
     let e = c.timing_of-timing.ensures in
-    ap₂ (λ (r : List ℕ) (m : List TaskMargin). record { responses = r; margins = m })
+    ap₂ (λ (r : List ℕ) (m : List (Option ℤ)). record { responses = r; margins = m })
     (rw e at (filling.fill_end c.loop-k.invariant.0 c.loop-k-test.false))
     (rw e at (filled_end _ c.loop-k.invariant.1 c.loop-k-test.false))

@@ -6,7 +6,6 @@ use Prim.Native.Nat.{◌-◌}
 use native.Mathlib.Omega.{arith}
 use lib.Dec.{T}
 use Rattle.schedule.proofs.TasksOfArrays.{with_set}
-use Rattle.rows.specs.Rows.{memory_row, exclusion_row, load_row}
 use Rattle.mask.proofs.Laws.{insert_below}
 use Rattle.knapsack.proofs.Taking.{room_memory, room_load}
 use Rattle.knapsack.proofs.Packing.{taken_refused, taken_bad, taken_packs, taken_on, begun_packs, begun_packed, packing_start, packing_packs, packing_task, packing_reach, packing_next, packing_end}
@@ -35,8 +34,8 @@ most-take-taken-requires t c =
       ),
     )
 
-pub most-bounds-weights-k : goal.most-bounds-weights-k
-most-bounds-weights-k t c =
+pub most-bounds-weighting-k : goal.most-bounds-weighting-k
+most-bounds-weighting-k t c =
     let v = c.loop-left.invariant in
     omega (arith, v.2.limits.few, packing_task v.2 v.4 _ (passed c.has.ensures c.if-has.true))
 
@@ -109,26 +108,26 @@ take-overflow_sub-with_k t c =
     let a = c.args in
     let row = a.rows.now in
     let fits = c.if-not-room.false in
-    omega (arith, c.wide.ensures.0, room_memory (memory_row row) (exclusion_row row) (load_row row) a.pack.on a.pack.space a.pack.spare a.k c.room.ensures fits)
+    omega (arith, c.wide.ensures.0, room_memory row.memory row.exclusions row.load a.pack.on a.pack.space a.pack.spare a.k c.room.ensures fits)
 
 pub take-offset_bounds-rows-k-2 : goal.take-offset_bounds-rows-k-2
 take-offset_bounds-rows-k-2 t c = let p = c.requires in omega (arith, p.1, p.0.limits.few)
 
-pub take-bounds-rows-k-else-tested : goal.take-bounds-rows-k-else-tested
-take-bounds-rows-k-else-tested t c = let p = c.requires in omega (arith, p.1, p.0.limits.few)
+pub take-bounds-rows-k-2 : goal.take-bounds-rows-k-2
+take-bounds-rows-k-2 t c = let p = c.requires in omega (arith, p.1, p.0.limits.few)
 
 pub take-overflow_sub-with_k-2 : goal.take-overflow_sub-with_k-2
 take-overflow_sub-with_k-2 t c =
     let a = c.args in
     let row = a.rows.now in
     let fits = c.if-not-room.false in
-    omega (arith, c.wide-2.ensures.0, room_load (memory_row row) (exclusion_row row) (load_row row) a.pack.on a.pack.space a.pack.spare a.k c.room.ensures fits)
+    omega (arith, c.wide-2.ensures.0, room_load row.memory row.exclusions row.load a.pack.on a.pack.space a.pack.spare a.k c.room.ensures fits)
 
-pub take-offset_bounds-weights-k : goal.take-offset_bounds-weights-k
-take-offset_bounds-weights-k t c = let p = c.requires in omega (arith, p.1, p.0.limits.few)
+pub take-offset_bounds-weighting-k : goal.take-offset_bounds-weighting-k
+take-offset_bounds-weighting-k t c = let p = c.requires in omega (arith, p.1, p.0.limits.few)
 
-pub take-bounds-weights-k : goal.take-bounds-weights-k
-take-bounds-weights-k t c = let p = c.requires in omega (arith, p.1, p.0.limits.few)
+pub take-bounds-weighting-k : goal.take-bounds-weighting-k
+take-bounds-weighting-k t c = let p = c.requires in omega (arith, p.1, p.0.limits.few)
 
 pub take-overflow_add-with_k : goal.take-overflow_add-with_k
 take-overflow_add-with_k t c = omega (arith, c.wide-3.ensures.0, c.requires.2)
@@ -140,7 +139,7 @@ take-most-requires t c =
       omega (arith, c.decreases),
       (
         rw (c.insert-set.ensures, c.wide.ensures.0, c.wide-2.ensures.0, c.wide-3.ensures.0)
-            (taken_packs p.0 p.1 c.test-tested.result (rw c.insert-set.ensures at c.test-tested.ensures.0) (memory_row row) (exclusion_row row) (load_row row) c.args.weights.now),
+            (taken_packs p.0 p.1 c.test-tested.result (rw c.insert-set.ensures at c.test-tested.ensures.0) row.memory row.exclusions row.load c.args.weighting.now.weights),
         omega (arith, p.2, c.wide-3.ensures.0),
         c.test-tested.ensures.1,
       ),
@@ -154,7 +153,7 @@ pub take-returns : goal.take-returns
 take-returns t c =
     let p = c.requires in
     let row = c.args.rows.now in (
-      taken_on p.0 p.1 c.test-tested.result (rw c.insert-set.ensures at c.test-tested.ensures.0) (memory_row row) (exclusion_row row) (load_row row) c.args.weights.now c.most.result
+      taken_on p.0 p.1 c.test-tested.result (rw c.insert-set.ensures at c.test-tested.ensures.0) row.memory row.exclusions row.load c.args.weighting.now.weights c.most.result
           (rw (c.insert-set.ensures, c.wide.ensures.0, c.wide-2.ensures.0, c.wide-3.ensures.0) at c.most.ensures.0),
       c.most.ensures.1,
     )

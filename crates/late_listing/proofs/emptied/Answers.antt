@@ -1,6 +1,6 @@
 -- Processor by processor: what is left, and what the tasks on it took.
 use mathlib.Core.Path.{◌≡◌, refl, ap}
-use Prim.Native.Nat.{ℕ, ◌+◌, ◌-◌}
+use Prim.Native.Nat.{ℕ, ◌+◌}
 use native.Mathlib.Omega.{arith}
 use borrow.Author.Rules.{rules}
 use lib.ListN.{get_or}
@@ -55,5 +55,5 @@ all_below-requires c = search rules
 pub returns : goal.returns
 unfolding emptied_of
 returns c =
-    let all : c.loop-p.p ≡ c.args.sizes.processors = omega (arith, c.loop-p.invariant.0, c.loop-p-test.false) in
+    let all : c.loop-p.p ≡ c.args.instance.now.sizes.processors = omega (arith, c.loop-p.invariant.0, c.loop-p-test.false) in
     rw (c.all_below.ensures, c.loop-p.invariant.1, c.loop-p.invariant.2, all) refl

@@ -2,12 +2,8 @@
 use mathlib.Core.Path.{◌≡◌}
 use Prim.Native.Nat.{◌-◌, ◌≤◌}
 use Rattle.table.specs.Table.{column}
-use Rattle.rows.specs.Rows.{memory_row, load_row}
 use Rattle.late_listing.specs.LateListing.{whole_of}
 use Rattle.late_listing.proofs.emptied.Given as goal
 
 abbrev pub invariant-loop-p : goal.invariant-loop-p
-invariant-loop-p l = (l.p ≤ l.sizes.processors) × (l.memory ≡ column 8 l.p (whole_of (memory_row l.rows) l.s l.s.memory)) × (l.load ≡ column 8 l.p (whole_of (load_row l.rows) l.s l.s.load))
-
-abbrev pub decreases-loop-p : goal.decreases-loop-p
-decreases-loop-p l = l.sizes.processors - l.p
+invariant-loop-p l = (l.p ≤ l.instance.sizes.processors) × (l.memory ≡ column 8 l.p (whole_of l.instance.rows.memory l.s l.s.memory)) × (l.load ≡ column 8 l.p (whole_of l.instance.rows.load l.s l.s.load))

@@ -16,8 +16,8 @@ examine-requires c =
     let z = c.requires in
     (z.0, (z.1.0, z.1.1, z.1.2.fits, z.1.3))
 
-pub returns-then-heuristics-ne1 : goal.returns-then-heuristics-ne1
-returns-then-heuristics-ne1 c = (
+pub returns-then-ne : goal.returns-then-ne
+returns-then-ne c = (
   ⊎_elim (λ y. inr (y.examine.ensures.0.0, y.heuristics-is ∙ y.examine.ensures.0.1)) (λ y. inl y.heuristics-is) c.if-worth_a_try.branch-raw,
   λ links t l w k. (covers_none w.nogoods, ⊎_elim (λ y. rw y.lateness-is (y.examine.ensures.1 links t l w.fits k)) (λ y. rw y.lateness-is k) c.if-worth_a_try.branch-raw),
 )

@@ -9,8 +9,8 @@ use Rattle.late_sets.proofs.Joining.{one_more_lem}
 use Rattle.late_sets.proofs.Recursion.{next_task, not_last, wider_continues, wider_below, without_continues, wider_possible, covers_nowhere, covers_tested, covers_wider, without_possible, covers_both, covers_stopped, covers_end, covers_none}
 use Rattle.late_sets.proofs.+cover_supersets_cover_with_next.Goals as goal
 
-pub cover_supersets-returns-then-subset-sizes : goal.cover_supersets-returns-then-subset-sizes
-cover_supersets-returns-then-subset-sizes t c = λ links u l w k. ((λ f m in_time. covers_end l.rules w in_time c.if-subset-sizes.true), w.nogoods, k)
+pub cover_supersets-returns-then-subset-instance : goal.cover_supersets-returns-then-subset-instance
+cover_supersets-returns-then-subset-instance t c = λ links u l w k. ((λ f m in_time. covers_end l.rules w in_time c.if-subset-instance.true), w.nogoods, k)
 
 pub cover_supersets-returns-then-steps-eq0 : goal.cover_supersets-returns-then-steps-eq0
 cover_supersets-returns-then-steps-eq0 t c = λ links u l w k. ((λ f m in_time. covers_none w.nogoods), w.nogoods, k)
@@ -19,7 +19,7 @@ pub cover_supersets-cover_with_next-with_it-requires : goal.cover_supersets-cove
 cover_supersets-cover_with_next-with_it-requires t c =
     let a = c.requires in
     let z = a.1 in
-    (omega (arith, c.decreases), (a, rw z.1.rules.tasks (not_last z.1.rules z.2 c.if-subset-sizes.false)))
+    (omega (arith, c.decreases), (a, rw z.1.rules.tasks (not_last z.1.rules z.2 c.if-subset-instance.false)))
 
 pub cover_supersets-returns-then-not-with_it : goal.cover_supersets-returns-then-not-with_it
 cover_supersets-returns-then-not-with_it t c =
@@ -35,13 +35,13 @@ pub cover_supersets-cover_supersets-requires : goal.cover_supersets-cover_supers
 cover_supersets-cover_supersets-requires t c =
     let a = c.requires in
     let z = a.1 in
-    let next = not_last z.1.rules z.2 c.if-subset-sizes.false in
+    let next = not_last z.1.rules z.2 c.if-subset-instance.false in
     let v = c.cover_with_next-with_it.ensures a.0 z.0 z.1 z.2 z.3 in
-    (omega (arith, c.decreases, c.if-subset-sizes.false, z.2.upto, z.1.rules.tasks), (a.0, (z.0, z.1, without_continues z.1.rules z.2 next v.1, v.2)))
+    (omega (arith, c.decreases, c.if-subset-instance.false, z.2.upto, z.1.rules.tasks), (a.0, (z.0, z.1, without_continues z.1.rules z.2 next v.1, v.2)))
 
 pub cover_supersets-returns : goal.cover_supersets-returns
 cover_supersets-returns t c =
-    λ links u l w k. let next = not_last l.rules w c.if-subset-sizes.false in
+    λ links u l w k. let next = not_last l.rules w c.if-subset-instance.false in
     let v = c.cover_with_next-with_it.ensures links u l w k in
     let i = c.cover_supersets.ensures links u l (without_continues l.rules w next v.1) v.2 in (
       (λ f m in_time. covers_both l.rules w c.cover_with_next-with_it.result (v.0 f m) (not-false _ c.if-not-with_it.false) c.cover_supersets.result (i.0 f (without_possible l.rules w m) in_time)),
@@ -75,7 +75,7 @@ cover_with_next-cover_supersets-requires t c =
     let l = z.0.1.1 in
     let next = next_task l.rules z.0.1.2 z.1 in
     let e = c.with_next-wider.ensures in (
-      rw e.0 (omega (arith, c.decreases, z.1, one_more_lem o.rows.now o.sizes.processors o.s o.subset)),
+      rw e.0 (omega (arith, c.decreases, z.1, one_more_lem o.instance.now.rows o.instance.now.sizes.processors o.s o.subset)),
       (z.0.0, (z.0.1.0, l, rw e.0 (wider_continues l.rules z.0.1.2 o.s next (rw e.0 at e.1)), known_verdict z.0.1.3 _ _ (rw (lent_tasks l) at c.is_late.ensures.1) c.is_late.ensures.2)),
     )
 

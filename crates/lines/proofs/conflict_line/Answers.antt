@@ -11,12 +11,6 @@ pub loop-k-init : goal.loop-k-init
 loop-k-init c =
     (omega arith, omega arith, refl, put_none (member c.args.mask) c.put-end.new.text c.put-end.result (search rules))
 
-pub overflow_add-k : goal.overflow_add-k
-overflow_add-k c = omega arith
-
-pub loop-k-smaller : goal.loop-k-smaller
-loop-k-smaller c = omega arith
-
 pub loop-k-preserved : goal.loop-k-preserved
 loop-k-preserved c =
     (omega arith, omega arith, c.put_member-end.auto.text ∙ c.loop-k.invariant.2, put_more (member c.args.mask) c.loop-k.invariant.3 c.put_member-end.ensures.0)

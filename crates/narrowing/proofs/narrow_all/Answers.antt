@@ -2,7 +2,7 @@
 use mathlib.Core.Path.{◌≡◌, refl, sym, ◌∙◌}
 use mathlib.Core.Logic.{⊎_elim}
 use mathlib.Core.List.{List}
-use Prim.Native.Nat.{ℕ, ◌-◌}
+use Prim.Native.Nat.{ℕ}
 use native.Mathlib.Omega.{arith}
 use lib.Bits.{bit_and}
 use lib.ListN.{get_or}
@@ -36,36 +36,16 @@ pub has-requires : goal.has-requires
 unfolding may_of
 has-requires c = omega (arith, c.loop-p-test.true, c.requires.0.1.rules.processors, c.requires.0.1.rules.sound.processors.most)
 
-pub offset_bounds-s-p : goal.offset_bounds-s-p
+pub site-site-requires : goal.site-site-requires
 unfolding may_of
-offset_bounds-s-p c = record { fits = omega (arith, c.loop-p-test.true, c.requires.0.1.rules.processors, c.requires.0.1.rules.sound.processors.most) }
-
-pub bounds-s-p : goal.bounds-s-p
-unfolding may_of
-bounds-s-p c = omega (arith, c.loop-p-test.true, c.requires.0.1.rules.processors, c.requires.0.1.rules.sound.processors.most)
-
-pub offset_bounds-s-p-then-has : goal.offset_bounds-s-p-then-has
-unfolding may_of
-offset_bounds-s-p-then-has c = record { fits = omega (arith, c.loop-p-test.true, c.requires.0.1.rules.processors, c.requires.0.1.rules.sound.processors.most) }
-
-pub bounds-s-p-then-has : goal.bounds-s-p-then-has
-unfolding may_of
-bounds-s-p-then-has c = omega (arith, c.loop-p-test.true, c.requires.0.1.rules.processors, c.requires.0.1.rules.sound.processors.most)
-
-pub offset_bounds-s-p-then-has-2 : goal.offset_bounds-s-p-then-has-2
-unfolding may_of
-offset_bounds-s-p-then-has-2 c = record { fits = omega (arith, c.loop-p-test.true, c.requires.0.1.rules.processors, c.requires.0.1.rules.sound.processors.most) }
-
-pub bounds-s-p-then-has-2 : goal.bounds-s-p-then-has-2
-unfolding may_of
-bounds-s-p-then-has-2 c = omega (arith, c.loop-p-test.true, c.requires.0.1.rules.processors, c.requires.0.1.rules.sound.processors.most)
+site-site-requires c = omega (arith, c.loop-p-test.true, c.requires.0.1.rules.processors, c.requires.0.1.rules.sound.processors.most)
 
 pub narrow-set-requires : goal.narrow-set-requires
 unfolding may_of
 narrow-set-requires c =
     let a = c.args in
     let z = c.requires in
-    ((z.0.0, _, z.0.1, z.0.2, refl), open_part (get_or a.sets c.loop-p.p 0) a.s.left, c.loop-p-test.true, z.1, c.loop-p.invariant.2)
+    ((z.0.0, _, z.0.1, z.0.2, c.site-site.ensures), rw c.site-site.ensures (open_part (get_or a.sets c.loop-p.p 0) a.s.left), c.loop-p-test.true, z.1, c.loop-p.invariant.2)
 
 pub offset_bounds-may-p : goal.offset_bounds-may-p
 unfolding may_of
@@ -74,10 +54,6 @@ offset_bounds-may-p c = record { fits = omega (arith, c.loop-p-test.true, c.requ
 pub bounds-may-p : goal.bounds-may-p
 unfolding may_of
 bounds-may-p c = omega (arith, c.loop-p-test.true, c.requires.0.1.rules.processors, c.requires.0.1.rules.sound.processors.most)
-
-pub overflow_add-p : goal.overflow_add-p
-unfolding may_of
-overflow_add-p c = omega (arith, c.loop-p-test.true, c.requires.0.1.rules.processors, c.requires.0.1.rules.sound.processors.most)
 
 pub loop-p-smaller : goal.loop-p-smaller
 unfolding may_of
@@ -88,7 +64,7 @@ unfolding may_of
 loop-p-preserved c =
     let h = c.has in (
       omega (arith, c.loop-p-test.true),
-      column_next _ c.loop-p.invariant.1 (omega (arith, c.loop-p-test.true, c.requires.0.1.rules.processors, c.requires.0.1.rules.sound.processors.most)) (⊎_elim (λ y. y.set-is ∙ y.narrow-set.ensures.0 ∙ rw (sym h.ensures ∙ y.if-has.true) refl) (λ y. y.set-is ∙ rw (sym h.ensures ∙ y.if-has.false) refl) c.if-has.branch-raw),
+      column_next _ c.loop-p.invariant.1 (omega (arith, c.loop-p-test.true, c.requires.0.1.rules.processors, c.requires.0.1.rules.sound.processors.most)) (⊎_elim (λ y. y.set-is ∙ (rw y.site-site.ensures at y.narrow-set.ensures.0) ∙ rw (sym h.ensures ∙ y.if-has.true) refl) (λ y. y.set-is ∙ rw (sym h.ensures ∙ y.if-has.false) refl) c.if-has.branch-raw),
       ⊎_elim (λ y. rw y.lateness-is y.narrow-set.ensures.1) (λ y. rw y.lateness-is c.loop-p.invariant.2) c.if-has.branch-raw,
     )
 

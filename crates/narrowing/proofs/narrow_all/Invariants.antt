@@ -14,9 +14,6 @@ use Rattle.narrowing.proofs.narrow_all.Given as goal
 
 abbrev pub invariant-loop-p : goal.invariant-loop-p
 invariant-loop-p l =
-    (l.p ≤ l.sizes.processors)
-    × (l.may ≡ column 8 l.p (λ r. cond (has l.anew r) (narrow_of l.timing l.rows l.messages l.sizes l.full l.list l.count (site_of l.s r) r (bit_and (get_or l.sets r 0) l.s.left)) (bit_and (get_or l.sets r 0) l.s.left)))
-    × KnownSets (tasks_of l.sizes.tasks l.timing) l.list l.count l.lateness
-
-abbrev pub decreases-loop-p : goal.decreases-loop-p
-decreases-loop-p l = l.sizes.processors - l.p
+    (l.p ≤ l.instance.sizes.processors)
+    × (l.may ≡ column 8 l.p (λ r. cond (has l.anew r) (narrow_of l.instance.timing l.instance.rows l.instance.messages l.instance.sizes l.full l.list l.count (site_of l.s r) r (bit_and (get_or l.sets r 0) l.s.left)) (bit_and (get_or l.sets r 0) l.s.left)))
+    × KnownSets (tasks_of l.instance.sizes.tasks l.instance.timing) l.list l.count l.lateness

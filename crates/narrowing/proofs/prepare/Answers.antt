@@ -3,7 +3,6 @@ use mathlib.Core.Path.{ap}
 use mathlib.Core.List.{List}
 use Prim.Native.Nat.{ℕ}
 use native.Mathlib.Omega.{arith}
-use borrow.Author.Rules.{rules}
 use Rattle.region.specs.Begins.{with_may}
 use Rattle.region.proofs.Lending.{lent_tasks}
 use Rattle.narrowing.proofs.prepare.Goals as goal

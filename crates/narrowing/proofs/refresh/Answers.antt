@@ -1,7 +1,6 @@
 -- All is tested anew, or the processors that the task reaches.
 use mathlib.Core.Path.{sym, ◌∙◌}
 use native.Mathlib.Omega.{arith}
-use borrow.Author.Rules.{rules}
 use Rattle.region.proofs.Lending.{lent_tasks}
 use Rattle.narrowing.proofs.refresh.Goals as goal
 

@@ -8,6 +8,3 @@ use Rattle.network_bound.proofs.can_meet.Given as goal
 
 abbrev pub invariant-loop-p : goal.invariant-loop-p
 invariant-loop-p l = Searched l.m (λ r. joined (get_or l.s.on r 0) (get_or l.sets r 0) l.from && joined (get_or l.s.on r 0) (get_or l.sets r 0) l.to) l.p
-
-abbrev pub decreases-loop-p : goal.decreases-loop-p
-decreases-loop-p l = l.m - l.p

@@ -6,6 +6,3 @@ use Rattle.network_bound.proofs.crossing.Given as goal
 
 abbrev pub invariant-loop-j : goal.invariant-loop-j
 invariant-loop-j l = MessageSum l.messages l.count (must_cross l.exclusions l.s l.sets l.m) l.j l.sum
-
-abbrev pub decreases-loop-j : goal.decreases-loop-j
-decreases-loop-j l = l.count - l.j

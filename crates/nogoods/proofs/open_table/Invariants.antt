@@ -6,6 +6,3 @@ use Rattle.nogoods.proofs.open_table.Given as goal
 
 abbrev pub invariant-loop-n : goal.invariant-loop-n
 invariant-loop-n l = (l.n ≤ 16384) × (l.lateness ≡ cleared l.initial.lateness l.n)
-
-abbrev pub decreases-loop-n : goal.decreases-loop-n
-decreases-loop-n l = 16384 - l.n

@@ -6,6 +6,3 @@ use Rattle.pairs.proofs.nowhere.Given as goal
 
 abbrev pub invariant-loop-p : goal.invariant-loop-p
 invariant-loop-p l = Searched l.processors (takes_both l.rows l.s l.i l.j) l.p
-
-abbrev pub decreases-loop-p : goal.decreases-loop-p
-decreases-loop-p l = l.processors - l.p

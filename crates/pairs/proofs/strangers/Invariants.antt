@@ -5,7 +5,4 @@ use Rattle.pairs.specs.Pairs.{apart}
 use Rattle.pairs.proofs.strangers.Given as goal
 
 abbrev pub invariant-loop-j : goal.invariant-loop-j
-invariant-loop-j l = Summing l.n (apart l.timing l.rows l.sizes l.s l.i) (λ k. 1) 1 l.j l.count
-
-abbrev pub decreases-loop-j : goal.decreases-loop-j
-decreases-loop-j l = l.n - l.j
+invariant-loop-j l = Summing l.n (apart l.instance.timing l.instance.rows l.instance.sizes l.s l.i) (λ k. 1) 1 l.j l.count

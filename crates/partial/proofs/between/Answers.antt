@@ -1,9 +1,8 @@
 -- `between` meets its contract. Assumes nothing.
 use mathlib.Core.Logic.{⊎_elim}
-use Prim.Native.Nat.{◌-◌}
 use native.Mathlib.Omega.{arith}
 use Rattle.finite.proofs.SumLoop.{summing_start, summing_end}
-use Rattle.partial.specs.Tests.{joins, between}
+use Rattle.partial.specs.Tests.{between}
 use Rattle.partial.proofs.MessageSum.{message_fits, message_next}
 use Rattle.partial.proofs.between.Goals as goal
 

@@ -1,11 +1,7 @@
 -- `between` meets its contract. Assumes nothing.
-use Prim.Native.Nat.{◌-◌}
 use Rattle.partial.specs.Tests.{joins}
 use Rattle.partial.proofs.MessageSum.{MessageSum}
 use Rattle.partial.proofs.between.Given as goal
 
 abbrev pub invariant-loop-j : goal.invariant-loop-j
 invariant-loop-j l = MessageSum l.messages l.count (joins l.k l.others) l.j l.sum
-
-abbrev pub decreases-loop-j : goal.decreases-loop-j
-decreases-loop-j l = l.count - l.j

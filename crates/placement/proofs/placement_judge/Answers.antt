@@ -1,8 +1,7 @@
 -- `placement_judge` meets its contract. Assumes nothing.
 use mathlib.Core.Path.{ap, ◌∙◌}
-use Rattle.judge.specs.declared.Judged.{Judged}
 use Rattle.judge.specs.Judge.{judgement_number}
 use Rattle.placement.proofs.placement_judge.Goals as goal
 
 pub returns : goal.returns
-returns c = c.judgement_number.ensures ∙ ap (λ (z : Judged). judgement_number z.judgement) c.judge-judged.ensures
+returns c = c.judgement_number.ensures ∙ ap judgement_number c.judge-judged.ensures

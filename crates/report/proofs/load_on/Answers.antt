@@ -1,9 +1,8 @@
 -- `load_on` meets its contract: the load of the first k tasks that stand on p.
-use mathlib.Core.Path.{refl, ap, ◌∙◌}
+use mathlib.Core.Path.{refl, sym, ap, ◌∙◌}
 use mathlib.Core.Logic.{⊎_elim}
 use Prim.Native.Nat.{◌<◌}
 use native.Mathlib.Omega.{arith}
-use borrow.Author.Rules.{rules}
 use borrow.Author.Tests.{lt-ltb, eq-eqb, ne_eqb}
 use lib.ListN.{get_or}
 use Rattle.table.proofs.Times.{work_in_period, some_period}
@@ -17,10 +16,6 @@ pub loop-k-init : goal.loop-k-init
 unfolding load_on
 loop-k-init c = summing_start
 
-pub overflow_cast-placement : goal.overflow_cast-placement
-unfolding load_on
-overflow_cast-placement c = search rules
-
 pub offset_bounds-tasks-k : goal.offset_bounds-tasks-k
 unfolding load_on
 offset_bounds-tasks-k c = record { fits = omega (arith, c.requires.0.tasks.most) }
@@ -29,13 +24,13 @@ pub bounds-tasks-k : goal.bounds-tasks-k
 unfolding load_on
 bounds-tasks-k c = omega (arith, c.requires.0.tasks.most)
 
-pub offset_bounds-tasks-k-then-placement-k : goal.offset_bounds-tasks-k-then-placement-k
+pub offset_bounds-tasks-k-then-from-p : goal.offset_bounds-tasks-k-then-from-p
 unfolding load_on
-offset_bounds-tasks-k-then-placement-k c = record { fits = omega (arith, c.requires.0.tasks.most) }
+offset_bounds-tasks-k-then-from-p c = record { fits = omega (arith, c.requires.0.tasks.most) }
 
-pub bounds-tasks-k-then-placement-k : goal.bounds-tasks-k-then-placement-k
+pub bounds-tasks-k-then-from-p : goal.bounds-tasks-k-then-from-p
 unfolding load_on
-bounds-tasks-k-then-placement-k c = omega (arith, c.requires.0.tasks.most)
+bounds-tasks-k-then-from-p c = omega (arith, c.requires.0.tasks.most)
 
 pub with_task-load-requires : goal.with_task-load-requires
 unfolding load_on
@@ -55,10 +50,10 @@ loop-k-preserved c =
     ⊎_elim
     (λ w.
     rw (ap (λ (x : Load). x.0) w.load-is ∙ w.with_task-load.ensures)
-    (summing_in c.loop-k.invariant l (rw (lt-ltb _ _ c.loop-k-test.true, eq-eqb _ _ w.if-placement-k.true) refl) refl
+    (summing_in c.loop-k.invariant l (rw (lt-ltb _ _ c.loop-k-test.true, eq-eqb _ _ (sym c.from.ensures ∙ w.if-from-p.true)) refl) refl
     (omega (arith, work_le (get_or t.tasks.c k 0) (get_or t.tasks.t k 0) t.hyperperiod (work_in_period h k l), h.hyperperiod_most))))
-    (λ w. rw w.load-is (summing_out c.loop-k.invariant l (rw (lt-ltb _ _ c.loop-k-test.true, ne_eqb _ _ w.if-placement-k.false) refl)))
-    c.if-placement-k.branch-raw
+    (λ w. rw w.load-is (summing_out c.loop-k.invariant l (rw (lt-ltb _ _ c.loop-k-test.true, ne_eqb _ _ (λ e. w.if-from-p.false (c.from.ensures ∙ e))) refl)))
+    c.if-from-p.branch-raw
 
 pub returns : goal.returns
 unfolding load_on

@@ -9,9 +9,6 @@ use Rattle.report.proofs.put_conflicts.Goals as goal
 pub loop-j-init : goal.loop-j-init
 loop-j-init c = let a = c.args in (omega arith, omega arith, refl, put_none (λ i. conflict_line a.n (mask_at a.list.now i)) a.text.now a.at (omega (arith, c.requires.0)))
 
-pub loop-j-smaller : goal.loop-j-smaller
-loop-j-smaller c = omega arith
-
 pub loop-j-preserved : goal.loop-j-preserved
 loop-j-preserved c =
     let a = c.args in (

@@ -24,9 +24,6 @@ pub load_line-end-requires : goal.load_line-end-requires
 load_line-end-requires c =
     omega (arith, c.requires.0, c.requires.1.processors.most, c.loop-p.invariant.1, c.loop-p-test.true)
 
-pub loop-p-smaller : goal.loop-p-smaller
-loop-p-smaller c = omega arith
-
 pub loop-p-preserved : goal.loop-p-preserved
 loop-p-preserved c =
     let a = c.args in (

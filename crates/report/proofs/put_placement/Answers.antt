@@ -13,4 +13,4 @@ put_loads-requires c =
 
 pub returns : goal.returns
 returns c =
-    (rw (← c.judge-judged.ensures) (put_then c.put_tasks-end.ensures.0 c.put_loads.ensures.0), omega (arith, c.put_tasks-end.ensures.1, c.put_loads.ensures.1))
+    (rw (← c.judge.ensures, ← c.unwrap_or-judged.ensures) (put_then c.put_tasks-end.ensures.0 c.put_loads.ensures.0), omega (arith, c.put_tasks-end.ensures.1, c.put_loads.ensures.1))

@@ -8,7 +8,7 @@ use Rattle.restarts.proofs.decide.Given as goal
 abbrev pub invariant-loop-fuel : goal.invariant-loop-fuel
 invariant-loop-fuel l =
     (300 ≤ l.fuel) × (l.fuel ≤ 1350000) × (l.run ≤ l.fuel)
-    × Gives l.sizes l.timing l.rows l.messages (λ t. Prepared t l.begin) (λ t. Learnt t l.rows l.initial.lateness l.initial.bounds) (λ t. Learnt t l.rows l.lateness l.bounds)
+    × Gives l.instance (λ t. Prepared t l.begin) (λ t. Learnt t l.instance.rows l.initial.caches.lateness l.initial.caches.bounds) (λ t. Learnt t l.instance.rows l.caches.lateness l.caches.bounds)
 
 abbrev pub decreases-loop-fuel : goal.decreases-loop-fuel
 decreases-loop-fuel l = 900000 - l.fuel

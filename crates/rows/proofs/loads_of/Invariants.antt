@@ -1,11 +1,8 @@
 -- `loads_of` meets its contract. Assumes nothing.
-use Prim.Native.Nat.{◌-◌, ◌*◌, ◌/◌}
+use Prim.Native.Nat.{◌*◌, ◌/◌}
 use lib.ListN.{get_or}
 use Rattle.table.proofs.Filling.{Filled}
 use Rattle.rows.proofs.loads_of.Given as goal
 
 abbrev pub invariant-loop-k : goal.invariant-loop-k
 invariant-loop-k l = Filled 24 l.t.tasks.count (λ j. get_or l.t.tasks.c j 0 * l.t.hyperperiod / get_or l.t.tasks.t j 0) l.k l.loads
-
-abbrev pub decreases-loop-k : goal.decreases-loop-k
-decreases-loop-k l = 24 - l.k

@@ -1,5 +1,4 @@
 -- `neighbours_of` meets its contract. Assumes nothing.
-use Prim.Native.Nat.{◌-◌}
 use borrow.Author.Rules.{rules}
 use Rattle.table.proofs.Filling.{fill_start, fill_put, fill_end}
 use Rattle.rows.specs.Rows.{neighbours_of}

@@ -1,11 +1,7 @@
 -- `neighbours_of` meets its contract. Assumes nothing.
-use Prim.Native.Nat.{◌-◌}
 use Rattle.table.proofs.Filling.{Filled}
 use Rattle.rows.specs.Rows.{beside_of}
 use Rattle.rows.proofs.neighbours_of.Given as goal
 
 abbrev pub invariant-loop-k : goal.invariant-loop-k
 invariant-loop-k l = Filled 24 l.n (beside_of l.groups l.n) l.k l.neighbours
-
-abbrev pub decreases-loop-k : goal.decreases-loop-k
-decreases-loop-k l = 24 - l.k

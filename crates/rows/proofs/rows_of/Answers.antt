@@ -8,4 +8,4 @@ pub neighbours_of-partners-requires : goal.neighbours_of-partners-requires
 neighbours_of-partners-requires c = let s = c.requires in (s.co, s.tasks.most)
 
 pub returns : goal.returns
-returns c = rw (c.loads_of-loads.ensures, c.neighbours_of-exclusions.ensures, c.neighbours_of-partners.ensures)
+returns c = rw (c.loads_of-load.ensures, c.neighbours_of-exclusions.ensures, c.neighbours_of-partners.ensures)

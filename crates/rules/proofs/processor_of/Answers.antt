@@ -1,6 +1,5 @@
 -- `processor_of` meets its contract. Assumes nothing.
 use mathlib.Core.Path.{sym, ◌∙◌}
-use Prim.Native.Nat.{◌-◌}
 use Rattle.finite.proofs.Search.{search_start, search_next, search_found, search_missed}
 use Rattle.rules.proofs.processor_of.Goals as goal
 

@@ -1,15 +1,17 @@
 -- `search` meets its contract: the file's refusal, or what the search on its table leaves.
-use mathlib.Core.Path.{refl, sym, ap, ◌∙◌}
-use Rattle.table.specs.declared.Reading.{Reading}
+use mathlib.Core.Path.{refl, sym}
+use borrow.Author.Rules.{rules}
+use Rattle.std.proofs.lemmas.Result.{err_from_is_err_and}
 use Rattle.table.proofs.Sound.{read_sound}
 use Rattle.search.proofs.search.Goals as goal
 
 pub search_table-requires : goal.search_table-requires
-search_table-requires c =
-    rw c.read-reading.ensures (read_sound _ (λ k. (c.shared_slice_known-1.given k).fits) (sym (ap (λ (x : Reading). x.outcome) c.read-reading.ensures) ∙ c.in-Readable.is))
+search_table-requires c = read_sound _ (search rules) (sym c.in_ok-read.ensures)
 
-pub returns-in-Refused : goal.returns-in-Refused
-returns-in-Refused c = rw (← c.read-reading.ensures, c.in-Refused.is) (refl, refl)
+pub returns-in_err-read : goal.returns-in_err-read
+returns-in_err-read c =
+    let p = err_from_is_err_and c.from_residual.result c.from_residual.ensures.1 in
+    rw (p.1, p.2, ← c.in_err-read.ensures) (refl, refl)
 
-pub returns-in-Readable : goal.returns-in-Readable
-returns-in-Readable c = rw (← c.read-reading.ensures, c.in-Readable.is) c.search_table.ensures
+pub returns : goal.returns
+returns c = rw (← c.in_ok-read.ensures) c.search_table.ensures

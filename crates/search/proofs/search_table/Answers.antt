@@ -35,14 +35,14 @@ put_end-requires c =
 
 pub put_head-requires : goal.put_head-requires
 put_head-requires c =
-    (c.requires, solved_head c.requires _ _ c.solve-solved.result c.solve-solved.ensures, head_room c.args.table c.args.buffer.now _ c.put_end.new.list _ _ c.if-buffer-n.false (final c.before.before.before.before.before.before.before.before.before))
+    (c.requires, solved_head c.requires _ _ c.solve-solved.result c.solve-solved.ensures, head_room c.args.table c.args.buffer.now _ c.put_end.new.list _ _ c.if-buffer-n.false (final c.before.before.before.before.before.before.before.before))
 
 pub overflow_mul-result : goal.overflow_mul-result
-overflow_mul-result c = omega (arith, counted c.before.before.before.before.before.before.before.before.before.before.before.before.before.before)
+overflow_mul-result c = omega (arith, counted c.before.before.before.before.before.before.before.before.before.before.before.before.before)
 
 pub overflow_add-result-2 : goal.overflow_add-result-2
-overflow_add-result-2 c = omega (arith, counted c.before.before.before.before.before.before.before.before.before.before.before.before.before.before)
+overflow_add-result-2 c = omega (arith, counted c.before.before.before.before.before.before.before.before.before.before.before.before.before)
 
 pub returns : goal.returns
 returns c =
-    rw (le-ltb _ _ c.if-buffer-n.false) (written c.args.table c.args.buffer.now _ _ _ _ c.if-buffer-n.false (final c.before.before.before.before.before.before.before.before.before.before.before.before.before.before) _ c.put_end.ensures c.put_head.ensures)
+    rw (le-ltb _ _ c.if-buffer-n.false) (written c.args.table c.args.buffer.now _ _ _ _ c.if-buffer-n.false (final c.before.before.before.before.before.before.before.before.before.before.before.before.before) _ c.put_end.ensures c.put_head.ensures)

@@ -4,9 +4,9 @@ use borrow.Author.Tests.{lt-ltb, le-ltb}
 use Rattle.static_order.specs.StaticOrder.{base_of}
 use Rattle.static_order.proofs.base_of.Goals as goal
 
-pub returns-then-sizes-k : goal.returns-then-sizes-k
+pub returns-then-instance-k : goal.returns-then-instance-k
 unfolding base_of
-returns-then-sizes-k c = rw (le-ltb _ _ c.if-sizes-k.true)
+returns-then-instance-k c = rw (le-ltb _ _ c.if-instance-k.true)
 
 pub strangers-others-requires : goal.strangers-others-requires
 unfolding base_of
@@ -27,4 +27,4 @@ messages_weight-sent-requires c = search rules
 pub returns : goal.returns
 unfolding base_of
 returns c =
-    rw (lt-ltb _ _ c.if-sizes-k.false, c.strangers-others.ensures.0, c.bulk-size.ensures.0, c.density-density.ensures.0, c.messages_weight-sent.ensures.0)
+    rw (lt-ltb _ _ c.if-instance-k.false, c.strangers-others.ensures.0, c.bulk-size.ensures.0, c.density-density.ensures.0, c.messages_weight-sent.ensures.0)

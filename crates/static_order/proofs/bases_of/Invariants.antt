@@ -5,7 +5,4 @@ use Rattle.static_order.specs.StaticOrder.{base_of}
 use Rattle.static_order.proofs.bases_of.Given as goal
 
 abbrev pub invariant-loop-k : goal.invariant-loop-k
-invariant-loop-k l = Filled 24 l.sizes.tasks (base_of l.timing l.rows l.messages l.sizes l.s) l.k l.bases
-
-abbrev pub decreases-loop-k : goal.decreases-loop-k
-decreases-loop-k l = 24 - l.k
+invariant-loop-k l = Filled 24 l.instance.sizes.tasks (base_of l.instance.timing l.instance.rows l.instance.messages l.instance.sizes l.s) l.k l.bases

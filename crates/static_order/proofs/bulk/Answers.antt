@@ -36,8 +36,8 @@ scaled-by_memory-requires c = search rules
 
 pub returns-then-by_load-by_memory : goal.returns-then-by_load-by_memory
 unfolding bulk_of
-returns-then-by_load-by_memory c = (omega (arith, by_load c.before.before.before.before.before.before, by_memory c.before), search rules)
+returns-then-by_load-by_memory c = (omega (arith, by_load c.before.before.before.before.before.before.before, by_memory c.before.before), search rules)
 
 pub returns-else-by_load-by_memory : goal.returns-else-by_load-by_memory
 unfolding bulk_of
-returns-else-by_load-by_memory c = (omega (arith, by_load c.before.before.before.before.before.before, by_memory c.before), search rules)
+returns-else-by_load-by_memory c = (omega (arith, by_load c.before.before.before.before.before.before.before, by_memory c.before.before), search rules)

@@ -18,7 +18,7 @@ message_weight-sum-requires c = search rules
 pub loop-j-preserved : goal.loop-j-preserved
 unfolding messages_weight
 loop-j-preserved c =
-    summing_in c.loop-j.invariant c.loop-j-test.true refl c.message_weight-sum.ensures.0 c.message_weight-sum.ensures.1
+    summing_in c.loop-j.invariant c.loop-j-test.true refl (rw (c.wide-from.ensures.0, c.wide-to.ensures.0) at c.message_weight-sum.ensures.0) c.message_weight-sum.ensures.1
 
 pub returns : goal.returns
 unfolding messages_weight

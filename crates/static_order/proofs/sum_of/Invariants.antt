@@ -8,6 +8,3 @@ use Rattle.static_order.proofs.sum_of.Given as goal
 
 abbrev pub invariant-loop-p : goal.invariant-loop-p
 invariant-loop-p l = Summing 8 (λ j. true) (λ j. short (get_or l.rooms j 0)) 1099511627776 l.p l.sum
-
-abbrev pub decreases-loop-p : goal.decreases-loop-p
-decreases-loop-p l = 8 - l.p

@@ -1,5 +1,5 @@
 -- The places below k hold their directions.
-use Prim.Native.Nat.{ℕ, ◌-◌, ◌≤◌}
+use Prim.Native.Nat.{ℕ, ◌≤◌}
 use mathlib.Core.List.{List}
 use mathlib.Core.Bool.{Bool}
 use lib.ListN.{get_or}
@@ -12,6 +12,3 @@ new first before counts k = direction_from first (get_or before k 0) (get_or cou
 
 abbrev pub invariant-loop-k : goal.invariant-loop-k
 invariant-loop-k l = (l.k ≤ 24) × Filled 24 (new l.first l.before l.counts) 0 l.k l.next
-
-abbrev pub decreases-loop-k : goal.decreases-loop-k
-decreases-loop-k l = 24 - l.k

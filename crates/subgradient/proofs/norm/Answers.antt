@@ -1,53 +1,41 @@
--- The sum is that of the members that are gone from `rest`.
-use Prim.Native.Nat.{◌≤◌, ◌<◌}
+-- The sum is that of the members that have come.
+use mathlib.Core.Path.{refl}
+use Prim.Native.Nat.{◌*◌, ◌≤◌}
 use native.Mathlib.Omega.{arith}
 use borrow.Author.Rules.{rules}
-use lib.Dec.{T}
-use Rattle.mask.specs.Mask.{has}
-use Rattle.mask.proofs.Visit.{visit_start, visit_left, visit_less, visit_next}
-use Rattle.mask.proofs.Laws.{below_has}
-use Rattle.subgradient.proofs.Sums.{sum_start, sum_next, sum_fits, sum_end}
+use Rattle.mask.proofs.Visit.{visit_low}
+use Rattle.mask.proofs.Summed.{summed_start, summed_fits, summed_next, summed_end}
+use Rattle.mask.proofs.Laws.{below_has, sum_most}
+use Rattle.subgradient.specs.Subgradient.{norm_of}
 use Rattle.subgradient.proofs.Laws.{square, square_small}
-use Rattle.subgradient.proofs.norm.Lts as lts
-use Rattle.subgradient.proofs.norm.Reads as reads
-use Rattle.subgradient.proofs.norm.Tie as tie
 use Rattle.subgradient.proofs.norm.Goals as goal
+use Rattle.subgradient.proofs.norm.Goals.{Start, In-Some}
 
--- the task that is looked at
-member : (c : lts.After-lowest tie.the-claims reads.Pre reads.Post goal.the-invariant-loop-rest goal.the-decreases-loop-rest) → T (has c.loop-rest.rest c.lowest-k.result)
-member c = visit_left c.loop-rest.invariant.0 (search rules) c.lowest-k.ensures
+short : (c : Start) → norm_of c.args.direction c.args.left ≤ 24 * 3211264
+short c = let z = c.requires in sum_most 24 _ _ 3211264 (λ k u. square_small _ z.1 k (below_has 24 _ z.0 k u))
 
-low : (c : lts.After-lowest tie.the-claims reads.Pre reads.Post goal.the-invariant-loop-rest goal.the-decreases-loop-rest) → c.lowest-k.result < 24
-low c = below_has 24 _ c.requires.0 _ (c.loop-rest.invariant.0.inside _ (member c))
+small : (c : In-Some) → square c.args.direction c.in-Some.k ≤ 3211264
+small c = let z = c.requires in square_small _ z.1 _ (visit_low c.loop-k.invariant.visit c.in-Some.ensures.steps 24 z.0)
 
-small : (c : lts.After-lowest tie.the-claims reads.Pre reads.Post goal.the-invariant-loop-rest goal.the-decreases-loop-rest) → square c.args.direction c.lowest-k.result ≤ 3211264
-small c = square_small _ c.requires.1 _ (low c)
-
-pub loop-rest-init : goal.loop-rest-init
-loop-rest-init c = (visit_start (search rules), sum_start)
+pub loop-k-init : goal.loop-k-init
+loop-k-init c = rw (c.into_iter-k-iterator.ensures.into_iter_gives, c.members-k-items.ensures) (summed_start (search rules))
 
 pub offset_bounds-direction-k : goal.offset_bounds-direction-k
-offset_bounds-direction-k c = omega (arith, low c)
+offset_bounds-direction-k c = omega (arith, visit_low c.loop-k.invariant.visit c.in-Some.ensures.steps 24 c.requires.0)
 
 pub bounds-direction-k : goal.bounds-direction-k
-bounds-direction-k c = low c
+bounds-direction-k c = visit_low c.loop-k.invariant.visit c.in-Some.ensures.steps 24 c.requires.0
 
 pub overflow_mul-sum : goal.overflow_mul-sum
-overflow_mul-sum c = rw c.distance-d.ensures (omega (arith, small c.before))
+overflow_mul-sum c = rw c.distance-d.ensures (omega (arith, small (goal.at.overflow_mul-sum c).In-Some))
 
 pub overflow_add-sum : goal.overflow_add-sum
-overflow_add-sum c = rw c.distance-d.ensures (omega (arith, sum_fits c.loop-rest.invariant.1 _ (low c.before) (member c.before) (small c.before)))
+overflow_add-sum c =
+    let s = c.in-Some.ensures.steps in
+    rw c.distance-d.ensures (omega (arith, summed_fits c.loop-k.invariant s refl 24 c.requires.0, short (goal.at.overflow_add-sum c).Start))
 
-pub remove-rest-requires : goal.remove-rest-requires
-remove-rest-requires c = omega (arith, low c.before)
-
-pub loop-rest-smaller : goal.loop-rest-smaller
-loop-rest-smaller c = visit_less c.loop-rest.invariant.0 (search rules) c.lowest-k.ensures c.remove-rest.ensures
-
-pub loop-rest-preserved : goal.loop-rest-preserved
-loop-rest-preserved c =
-    let i = c.loop-rest.invariant in
-    (visit_next i.0 (search rules) c.lowest-k.ensures c.remove-rest.ensures tt, rw (c.remove-rest.ensures, c.distance-d.ensures) (sum_next i.1 _ (low c.before.before) (member c.before.before) (small c.before.before)))
+pub loop-k-preserved : goal.loop-k-preserved
+loop-k-preserved c = rw c.distance-d.ensures (summed_next c.loop-k.invariant c.in-Some.ensures.steps refl)
 
 pub returns : goal.returns
-returns c = sum_end c.loop-rest.invariant.1 (search rules)
+returns c = summed_end c.loop-k.invariant c.in-None.ensures.steps.0 24 c.requires.0

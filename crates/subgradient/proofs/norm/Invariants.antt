@@ -1,11 +1,7 @@
--- The sum is that of the members that are gone from `rest`.
-use Rattle.mask.proofs.Visit.{Visit}
-use Rattle.subgradient.proofs.Sums.{Sum}
+-- The sum is that of the members that have come.
+use Rattle.mask.proofs.Summed.{Summed}
 use Rattle.subgradient.proofs.Laws.{square}
 use Rattle.subgradient.proofs.norm.Given as goal
 
-abbrev pub invariant-loop-rest : goal.invariant-loop-rest
-invariant-loop-rest l = Visit 32 l.left l.rest (λ k. Unit {0}) × Sum (square l.direction) 3211264 l.left l.sum l.rest
-
-abbrev pub decreases-loop-rest : goal.decreases-loop-rest
-decreases-loop-rest l = l.rest
+abbrev pub invariant-loop-k : goal.invariant-loop-k
+invariant-loop-k l = Summed l.left l.k-iterator.left (square l.direction) l.sum

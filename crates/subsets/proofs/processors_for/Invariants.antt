@@ -7,6 +7,3 @@ use Rattle.subsets.proofs.processors_for.Given as goal
 
 abbrev pub invariant-loop-p : goal.invariant-loop-p
 invariant-loop-p l = (l.p ≤ l.m) × (l.found ≡ mask_of l.p (takes l.rows l.s l.subset l.k))
-
-abbrev pub decreases-loop-p : goal.decreases-loop-p
-decreases-loop-p l = l.m - l.p

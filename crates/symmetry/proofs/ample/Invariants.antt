@@ -2,8 +2,5 @@
 use Rattle.symmetry.proofs.Taking.{Taking}
 use Rattle.symmetry.proofs.ample.Given as goal
 
-abbrev pub invariant-loop-rest : goal.invariant-loop-rest
-invariant-loop-rest l = Taking l.row l.set l.room l.free l.rest
-
-abbrev pub decreases-loop-rest : goal.decreases-loop-rest
-decreases-loop-rest l = l.rest
+abbrev pub invariant-loop-k : goal.invariant-loop-k
+invariant-loop-k l = Taking l.row l.set l.room l.free l.k-iterator.left

@@ -1,5 +1,4 @@
 -- No processor passed over is interchangeable with p. Assumes nothing.
-use Prim.Native.Nat.{◌-◌}
 use native.Mathlib.Omega.{arith}
 use borrow.Author.Count.{below_more}
 use Rattle.schedule.proofs.Says.{says_yes, says_no}

@@ -7,6 +7,3 @@ use Rattle.symmetry.proofs.representative.Given as goal
 
 abbrev pub invariant-loop-q : goal.invariant-loop-q
 invariant-loop-q l = (l.q ≤ l.p) × ((t : Table) → Asks t l.rows l.s l.p → (j : ℕ) → j < l.q → Interchangeable t l.s j l.p → ⊥)
-
-abbrev pub decreases-loop-q : goal.decreases-loop-q
-decreases-loop-q l = l.p - l.q

@@ -5,8 +5,5 @@ use Rattle.mask.specs.Mask.{has}
 use Rattle.mask.proofs.Visit.{Visit}
 use Rattle.symmetry.proofs.same_residence.Given as goal
 
-abbrev pub invariant-loop-rest : goal.invariant-loop-rest
-invariant-loop-rest l = Visit 32 l.set l.rest (λ k. has (get_or l.residence k 0) l.p ≡ has (get_or l.residence k 0) l.q)
-
-abbrev pub decreases-loop-rest : goal.decreases-loop-rest
-decreases-loop-rest l = l.rest
+abbrev pub invariant-loop-k : goal.invariant-loop-k
+invariant-loop-k l = Visit l.set l.k-iterator.left (λ k. has (get_or l.residence k 0) l.p ≡ has (get_or l.residence k 0) l.q)

@@ -1,6 +1,5 @@
 -- `fill` meets its contract. Assumes nothing.
 use native.Mathlib.Omega.{arith}
-use Prim.Native.Nat.{◌-◌}
 use Rattle.table.proofs.Filling.{fill_start, fill_put, fill_end}
 use Rattle.table.proofs.fill.Goals as goal
 
@@ -9,12 +8,6 @@ loop-j-init c = fill_start _ _ _
 
 pub entry-requires : goal.entry-requires
 entry-requires c = c.requires
-
-pub bounds-out-j : goal.bounds-out-j
-bounds-out-j c = omega (arith, c.loop-j-test.true)
-
-pub loop-j-smaller : goal.loop-j-smaller
-loop-j-smaller c = omega (arith, c.loop-j.invariant.long, c.loop-j-test.true)
 
 pub loop-j-preserved : goal.loop-j-preserved
 loop-j-preserved c = fill_put c.loop-j.invariant (omega (arith, c.loop-j.invariant.long, c.loop-j-test.true)) c.entry.ensures

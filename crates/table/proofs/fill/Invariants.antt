@@ -1,5 +1,4 @@
 -- `fill` meets its contract. Assumes nothing.
-use Prim.Native.Nat.{◌-◌}
 use lib.ListN.{length}
 use Rattle.layout.specs.Format.{count}
 use Rattle.table.specs.Columns.{field_at}
@@ -8,6 +7,3 @@ use Rattle.table.proofs.fill.Given as goal
 
 abbrev pub invariant-loop-j : goal.invariant-loop-j
 invariant-loop-j l = Filled (length l.initial.out) (count l.x l.kind) (field_at l.file l.x l.kind l.offset l.width) l.j l.out
-
-abbrev pub decreases-loop-j : goal.decreases-loop-j
-decreases-loop-j l = length l.initial.out - l.j

@@ -9,10 +9,10 @@ use mir.ValLaws.{to_z-of_z}
 use Rattle.task_report.specs.Report.{margin_number}
 use Rattle.task_report.proofs.margin_number.Goals as goal
 
-pub returns-in-Known : goal.returns-in-Known
-returns-in-Known c =
-    let small : mag c.in-Known.x < 2147483648 = search rules in
-    rw (to_z-of_z w32 _ (record { sfits = small })) (ap margin_number (sym c.in-Known.is), small)
+pub returns-in-Some : goal.returns-in-Some
+returns-in-Some c =
+    let small : mag c.in-Some.x < 2147483648 = search rules in
+    rw (to_z-of_z w32 _ (record { sfits = small })) (ap margin_number (sym c.in-Some.is), small)
 
-pub returns-in-Beyond : goal.returns-in-Beyond
-returns-in-Beyond c = (ap margin_number (sym c.in-Beyond.is), omega arith)
+pub returns-in-None : goal.returns-in-None
+returns-in-None c = (ap margin_number (sym c.in-None.is), omega arith)

@@ -10,7 +10,7 @@ use lib.Seq.{sets, length-sets, length-take-le}
 use mir.Syntax.{w32}
 use mir.ValLaws.{to_z_pos}
 use Rattle.layout.proofs.Places.{longest_is}
-use Rattle.task_report.specs.Report.{task_number}
+use Rattle.task_report.specs.Report.{margin_number}
 use Rattle.task_report.proofs.Writing.{put_next, put_all}
 use Rattle.task_report.proofs.put_numbers.Goals as goal
 
@@ -46,15 +46,15 @@ shape_of-out c = c.put_margins.auto.out ∙ ap length c.loop-k.invariant.2 ∙ s
 pub returns : goal.returns
 returns c =
     let a = c.args in
-    let number = c.judgement_number in
+    let number = c.check_number in
     let concerned = c.number_concerned in
     let all : length a.judged.responses ≡ 24 = search rules in
     let done : c.loop-k.k ≡ a.n = omega arith in
-    put_all a.out.now (map pos (take a.n a.judged.responses)) (map task_number (take a.n a.judged.margins)) number.result concerned.result
+    put_all a.out.now (map pos (take a.n a.judged.responses)) (map margin_number (take a.n a.judged.margins)) number.result concerned.result
     (omega (arith, number)) (omega (arith, concerned.ensures, c.requires, longest_is))
     (omega (arith, length-map (take a.n a.judged.responses) pos, length-take-le a.n a.judged.responses (omega (arith, c.requires.1))))
-    (omega (arith, length-map (take a.n a.judged.margins) task_number, length-take-le a.n a.judged.margins (omega (arith, c.requires.0.margins, c.requires.1))))
+    (omega (arith, length-map (take a.n a.judged.margins) margin_number, length-take-le a.n a.judged.margins (omega (arith, c.requires.0.margins, c.requires.1))))
     c.requires.2
-    (c.put_margins.ensures ∙ ap (λ (x : List ℤ). sets x (2 + a.n) (map task_number (take a.n a.judged.margins))) (rw done at c.loop-k.invariant.2))
-    ∙ ap₂ (λ (x y : ℕ). (pos x ∷ pos y ∷ map pos (take a.n a.judged.responses) ++ map task_number (take a.n a.judged.margins)) ++ drop (2 * a.n + 2) a.out.now)
+    (c.put_margins.ensures ∙ ap (λ (x : List ℤ). sets x (2 + a.n) (map margin_number (take a.n a.judged.margins))) (rw done at c.loop-k.invariant.2))
+    ∙ ap₂ (λ (x y : ℕ). (pos x ∷ pos y ∷ map pos (take a.n a.judged.responses) ++ map margin_number (take a.n a.judged.margins)) ++ drop (2 * a.n + 2) a.out.now)
     number.ensures concerned.ensures

@@ -1,6 +1,5 @@
 -- The loop has the masks of the tasks below i.
 use borrow.Author.Rules.{rules}
-use Prim.Native.Nat.{◌-◌}
 use Rattle.timing.proofs.HigherLoops.{rows_start, rows_next, rows_end}
 use Rattle.timing.proofs.higher.Goals as goal
 

@@ -1,7 +1,6 @@
 -- The loop has the tasks of larger priority below j.
 use borrow.Author.Rules.{rules}
 use mathlib.Core.Logic.{⊎_elim}
-use Prim.Native.Nat.{◌-◌}
 use Rattle.timing.proofs.HigherLoops.{row_start, row_insert, row_skip, row_end}
 use Rattle.timing.proofs.higher_than.Goals as goal
 

@@ -16,10 +16,10 @@ pub pair_verdict-requires : goal.pair_verdict-requires
 unfolding content_verdict out_of_range not_in_file priority_used hyperperiod_too_large
 pair_verdict-requires c = search rules
 
-pub returns-then-is_in_range : goal.returns-then-is_in_range
+pub returns-then-not-is_in_range : goal.returns-then-not-is_in_range
 unfolding content_verdict out_of_range not_in_file priority_used hyperperiod_too_large
-returns-then-is_in_range c = simp (← c.word_at.ensures, sym c.is_in_range.ensures ∙ c.if-is_in_range.true) c.pair_verdict.ensures
+returns-then-not-is_in_range c = simp (← c.word_at.ensures, sym c.is_in_range.ensures ∙ c.if-not-is_in_range.true)
 
 pub returns : goal.returns
 unfolding content_verdict out_of_range not_in_file priority_used hyperperiod_too_large
-returns c = simp (← c.word_at.ensures, sym c.is_in_range.ensures ∙ c.if-is_in_range.false)
+returns c = simp (← c.word_at.ensures, sym c.is_in_range.ensures ∙ c.if-not-is_in_range.false) c.pair_verdict.ensures

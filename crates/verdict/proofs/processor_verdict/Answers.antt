@@ -12,10 +12,10 @@ pub is_in_range-requires : goal.is_in_range-requires
 unfolding content_verdict out_of_range not_in_file priority_used periods_differ message_repeated hyperperiod_too_large
 is_in_range-requires c = search rules
 
-pub returns-then-is_in_range : goal.returns-then-is_in_range
+pub returns-then-not-is_in_range : goal.returns-then-not-is_in_range
 unfolding content_verdict out_of_range not_in_file priority_used periods_differ message_repeated hyperperiod_too_large
-returns-then-is_in_range c = simp (← c.half_at.ensures.0, sym c.is_in_range.ensures ∙ c.if-is_in_range.true)
+returns-then-not-is_in_range c = simp (← c.half_at.ensures.0, sym c.is_in_range.ensures ∙ c.if-not-is_in_range.true)
 
-pub returns-else-is_in_range : goal.returns-else-is_in_range
+pub returns : goal.returns
 unfolding content_verdict out_of_range not_in_file priority_used periods_differ message_repeated hyperperiod_too_large
-returns-else-is_in_range c = simp (← c.half_at.ensures.0, sym c.is_in_range.ensures ∙ c.if-is_in_range.false)
+returns c = simp (← c.half_at.ensures.0, sym c.is_in_range.ensures ∙ c.if-not-is_in_range.false)

@@ -56,12 +56,6 @@ returns-then-half_at-sought c =
     let e = rw (c.place_in.ensures, c.series_of-series.ensures) at c.half_at.ensures.0 in
     sym (some_true _ _ c.loop-j.j (omega (arith, c.loop-j-test.true, c.count_of-n.ensures)) (eq-eqb _ _ (sym e ∙ c.if-half_at-sought.true ∙ c.loop-j.invariant.1)))
 
-pub overflow_add-j : goal.overflow_add-j
-overflow_add-j c = omega arith
-
-pub loop-j-smaller : goal.loop-j-smaller
-loop-j-smaller c = omega arith
-
 pub loop-j-preserved : goal.loop-j-preserved
 loop-j-preserved c =
     let e = rw c.place_in.ensures at c.half_at.ensures.0 in
