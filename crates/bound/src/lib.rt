@@ -18,7 +18,7 @@ use nogoods::Mode;
 use partial::{Instance, State};
 use rows::{Measure, Rows};
 
-// The weights of the tasks by load, by memory, or by both.
+// The weights of the tasks by load, by memory, or else by both.
 fn weights_in(rows: &Rows, measure: Measure) -> &[u32; 24]
     ensures { result.now ≡ weights_in rows.now measure }
 {

@@ -28,7 +28,7 @@ pub struct Entry {
 // 2,048 bounds.
 pub type BoundCache = [Entry; 2048];
 
-// No bound: there are no candidates.
+// The bound without tasks and candidates, which is 0: with it the cache begins.
 pub const EMPTY: Entry = Entry {
     key: Key {
         on: 0,

@@ -30,7 +30,7 @@ pub struct Pack {
     pub fuel: u32,
 }
 
-// The weights by which sets of tasks are compared, and the order in which tasks are tried.
+// The weights by which sets of tasks are compared, the order in which tasks are tried, and what the weights are.
 #[derive(Clone, Copy)]
 pub struct Weighting {
     pub weights: [u32; 24],

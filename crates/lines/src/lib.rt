@@ -48,7 +48,7 @@ fn put_item(text: &mut [u8], at: usize, word: &[u8], x: u64) -> usize
     text::put_decimal(text, end, x)
 }
 
-// Puts a margin: a number with its sign, or the mark.
+// Puts a margin: a number with its sign, or the word `beyond`.
 fn put_margin(text: &mut [u8], at: usize, margin: Margin) -> usize
     requires { at + 21 ≤ length text.old }
     ensures { Put text.old at (margin_text margin) text.new result × (result ≤ at + 21) }

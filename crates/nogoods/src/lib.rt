@@ -3,7 +3,8 @@
 
 ghost use Rattle.std.specs.Prelude.{◌≡◌, ◌+◌, ◌*◌, ◌≤◌, ◌<◌, T, length, set};
 ghost use Rattle.schedule.specs.Arrays.{tasks_of, InLimits};
-ghost use Rattle.nogoods.specs.Nogoods.{Nogoods, full, count_with, list_with, covered_by, word_of, hinted, CoverCache, cleared, opened, tabled, looked_for, KnownSets, cache_after, Noted};
+ghost use Rattle.nogoods.specs.Nogoods.{Nogoods, full, count_with, list_with, covered_by, word_of, hinted, CoverCache, cleared, opened, tabled};
+ghost use Rattle.nogoods.specs.Nogoods.{looked_for, KnownSets, cache_after, Noted};
 
 use late_cache::LateCache;
 use schedule::Timing;

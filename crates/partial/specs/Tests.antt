@@ -46,11 +46,12 @@ pub record SmallMessages (links : Messages) (count : ℕ) : Type 0 where
   pub to_task : (j : ℕ) → j < count → get_or links.receiver j 0 < 24
   pub small : (j : ℕ) → j < count → get_or links.amount j 0 ≤ 1000000000000000
 
--- the rules would be broken with task k on p, or they are kept and it adds so much to the network
+-- the rules are kept with task k on p, and it adds so much to the network
 pub record Tried (t : Table) (s : State) (k p added : ℕ) : Type 0 where
   pub keeps : Keeps t (and_task (standing s.on) k p)
   pub traffic : traffic t (and_task (standing s.on) k p) ≡ traffic t (standing s.on) + added
 
+-- the rules would be broken with task k on p, or they are kept
 abbrev pub TrialOf : Table → State → ℕ → ℕ → Option ℕ → Type 0
 TrialOf t s k p None = Keeps t (and_task (standing s.on) k p) → ⊥
 TrialOf t s k p (Some added) = Tried t s k p added

@@ -13,7 +13,7 @@ use Rattle.text.specs.Text.{ascii}
 use Rattle.lines.specs.declared.Stand.{Stand}
 use Rattle.lines.specs.Lines.{task_line, load_line, conflict_line}
 
--- what is printed of a placement that is refused: no response, and no margin, as if there were no task
+-- what is printed of a placement that is refused: as if there were no task; its check is not read
 abbrev pub nothing : Judged
 nothing = record { check = Ok tt; responses = replicate 24 0; margins = replicate 24 known_zero }
 

@@ -25,7 +25,7 @@ pub struct Rows {
     pub base: [u32; 24],
 }
 
-// What the weights of the tasks are: their load, their memory, both, or any others.
+// What the weights of the tasks are: their load, their memory, both, or any others, which stand in no row.
 #[derive(Clone, Copy, PartialEq, Eq)]
 pub enum Measure {
     Load,

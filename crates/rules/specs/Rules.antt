@@ -96,11 +96,11 @@ broken t on late Utilisation k = utilisation_broken t on k
 broken t on late Network k = network_broken t on
 broken t on late Deadline k = late k
 
--- what a check finds: nothing, or the first broken rule with the lowest number concerned
+-- what a check finds: nothing, or a broken rule with the lowest number concerned
 abbrev pub Check : Type 0
 Check = Result (Unit {0}) Broken
 
--- the rule is broken first, with the number k
+-- the rule is broken, with the number k
 abbrev pub broken_with : Rule → ℕ → Check
 broken_with rule k = Err (record { rule = rule; number = k })
 

@@ -16,7 +16,7 @@ pub enum Rule {
     Deadline,
 }
 
-// The first broken rule, with the lowest number concerned.
+// A broken rule, with the lowest number concerned.
 #[derive(Clone, Copy)]
 pub struct Broken {
     pub rule: Rule,

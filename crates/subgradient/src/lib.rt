@@ -4,7 +4,8 @@
 
 ghost use Rattle.std.specs.Prelude.{◌≡◌, ◌*◌, ◌≤◌, ◌<◌, T};
 ghost use Rattle.mask.specs.Mask.{below};
-ghost use Rattle.subgradient.specs.Subgradient.{AtMost, counted_of, counts_of, direction_from, direction_of, distance, norm_of, total_of, stride_of, limited, moved_weight, moved_of, off_scale, scaled_of, rescaled_of, adapt_of, heaviest};
+ghost use Rattle.subgradient.specs.Subgradient.{AtMost, counted_of, counts_of, direction_from, direction_of, distance, norm_of, total_of, stride_of};
+ghost use Rattle.subgradient.specs.Subgradient.{limited, moved_weight, moved_of, off_scale, scaled_of, rescaled_of, adapt_of, heaviest};
 
 use numbers::{lower, wide};
 
