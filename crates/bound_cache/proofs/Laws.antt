@@ -1,5 +1,5 @@
 -- What the table of bounds says: at first nothing; what is found in it; with one entry written anew. Assumes nothing.
-use mathlib.Core.Path.{◌≡◌, refl, sym, ap, subst, ◌∙◌}
+use mathlib.Core.Path.{◌≡◌, refl, sym, ap, subst}
 use mathlib.Core.Bool.{Bool, true, false, cond, false≢true}
 use mathlib.Core.List.{List}
 use Prim.Native.Nat.{ℕ, ◌≤◌, ◌<◌}
@@ -19,7 +19,8 @@ use Rattle.late_cache.specs.LateCache.{LateCache}
 use Rattle.nogoods.proofs.Covers.{known_forgot}
 use Rattle.bound_cache.specs.declared.Key.{Key}
 use Rattle.bound_cache.specs.declared.Entry.{Entry}
-use Rattle.bound_cache.specs.BoundCache.{Capped, empty, BoundCache, Learnt, LearntOf, number_of, entry_of, same_key, recall_of, keep_of}
+use Rattle.bound_cache.specs.BoundCache.{weights_at, Capped, empty, BoundCache, Learnt, LearntOf, number_of, entry_of, same_key, recall_of, keep_of}
+use Rattle.rows.specs.Rows.{weights_in}
 use Rattle.rows.specs.declared.Measure.{Measure}
 use Rattle.rows.specs.declared.Measure.TheVariants.{Load, Memory, Both, Other}
 use Rattle.rows.specs.declared.Rows.{Rows}
@@ -58,31 +59,18 @@ entry_low : (key : Key) → entry_of key < 2048
 unfolding entry_of
 entry_low key = omega arith
 
--- a measure by its number
-abbrev measure_at : ℕ → Measure
-measure_at n = cond (eqb n 0) Load (cond (eqb n 1) Memory (cond (eqb n 2) Both Other))
-
-measure_there : (a : Measure) → measure_at (number_of a) ≡ a
-measure_there Load = refl
-measure_there Memory = refl
-measure_there Both = refl
-measure_there Other = refl
-
-same_measures : (a b : Measure) → T (eqb (number_of a) (number_of b)) → a ≡ b
-same_measures a b u = sym (measure_there a) ∙ ap measure_at (eqb→eq (number_of a) (number_of b) u) ∙ measure_there b
-
 same_keys : (a b : Key) → T (same_key a b) → a ≡ b
 same_keys a b u =
     let v = and_right (eqb a.on b.on) _ u in
     let w = and_right (eqb a.candidates b.candidates) _ v in
-    let x = and_right (eqb (number_of a.measure) (number_of b.measure)) _ w in
+    let x = and_right (eqb a.row b.row) _ w in
     built (eqb→eq a.on b.on (and_left (eqb a.on b.on) _ u)) (eqb→eq a.candidates b.candidates (and_left (eqb a.candidates b.candidates) _ v))
-    (same_measures a.measure b.measure (and_left (eqb (number_of a.measure) (number_of b.measure)) _ w)) (eqb→eq a.space b.space (and_left (eqb a.space b.space) _ x))
+    (eqb→eq a.row b.row (and_left (eqb a.row b.row) _ w)) (eqb→eq a.space b.space (and_left (eqb a.space b.space) _ x))
     (eqb→eq a.spare b.spare (and_right (eqb a.space b.space) _ x))
   where
-    built : {on on' candidates candidates' space space' spare spare' : ℕ} {measure measure' : Measure} → on ≡ on' → candidates ≡ candidates' → measure ≡ measure' → space ≡ space'
-        → spare ≡ spare' → ◌≡◌ {A = Key} (record { on = on; candidates = candidates; measure = measure; space = space; spare = spare })
-        (record { on = on'; candidates = candidates'; measure = measure'; space = space'; spare = spare' })
+    built : {on on' candidates candidates' row row' space space' spare spare' : ℕ} → on ≡ on' → candidates ≡ candidates' → row ≡ row' → space ≡ space'
+        → spare ≡ spare' → ◌≡◌ {A = Key} (record { on = on; candidates = candidates; row = row; space = space; spare = spare })
+        (record { on = on'; candidates = candidates'; row = row'; space = space'; spare = spare' })
     built d e f g h = rw (d, e, f, g, h) refl
 
 abbrev value : Option ℕ → ℕ
@@ -103,6 +91,14 @@ recalled {t} {rows} {bounds} {key} {top} m e =
     let entry = get_or bounds (entry_of key) empty in
     let h = hit (same_key entry.key key) entry.top top e in
     subst (λ (x : Key). Capped t rows x top) (same_keys entry.key key h.0) (subst (Capped t rows entry.key) h.1 (m.entries (entry_of key) (entry_low key)))
+
+-- ---- the row of a measure
+
+pub row_weights : (rows : Rows) (m : Measure) {row : ℕ} → row ≡ number_of m → (m ≡ Other → ⊥) → weights_in rows m ≡ weights_at rows row
+row_weights rows Load e f = rw e refl
+row_weights rows Memory e f = rw e refl
+row_weights rows Both e f = rw e refl
+row_weights rows Other e f = absurd (f refl)
 
 -- ---- one entry written anew
 

@@ -8,12 +8,13 @@ use late_cache::LateCache;
 use numbers::wide;
 use rows::Measure;
 
-// What a bound was worked out from: the tasks on a processor, the candidates, what the weights are, and the memory (space) and load (spare) left.
+// What a bound was worked out from: the tasks on a processor, the candidates, the number of the row of weights, and the memory (space) and load (spare)
+// left.
 #[derive(Clone, Copy, PartialEq, Eq)]
 pub struct Key {
     pub on: u32,
     pub candidates: u32,
-    pub measure: Measure,
+    pub row: usize,
     pub space: u64,
     pub spare: u64,
 }
@@ -33,7 +34,7 @@ pub const EMPTY: Entry = Entry {
     key: Key {
         on: 0,
         candidates: 0,
-        measure: Measure::Load,
+        row: 0,
         space: 0,
         spare: 0,
     },
@@ -47,8 +48,8 @@ pub struct Caches {
     pub bounds: BoundCache,
 }
 
-// The number of a measure.
-fn number_of(measure: Measure) -> u64
+// The number of the row of weights by a measure; 3 for weights that are no row.
+pub fn number_of(measure: Measure) -> usize
     ensures { result ≡ number_of measure }
 {
     match measure {
@@ -66,7 +67,7 @@ fn entry_of(key: Key) -> usize
     let tasks = wide(key.on) * 2654435761 % 4294967296;
     let open = wide(key.candidates) * 2246822519 % 4294967296;
     let left = key.space % 4294967296 * 3266489917 % 4294967296;
-    let kind = number_of(key.measure) * 668265263;
+    let kind = (key.row % 4096) as u64 * 668265263;
     let mixed = (tasks + open + left + kind) % 4294967296;
     (mixed / 2097152) as usize
 }

@@ -19,7 +19,7 @@ use Rattle.table.specs.Sound.{Sound}
 use Rattle.schedule.specs.Arrays.{tasks_of}
 use Rattle.rules.specs.Sets.{standing}
 use Rattle.timing.specs.Timing.{tasks_in}
-use Rattle.rows.specs.Rows.{loads_of, exclusions_of, weights_in}
+use Rattle.rows.specs.Rows.{loads_of, exclusions_of}
 use Rattle.nogoods.specs.declared.Mode.{Mode}
 use Rattle.nogoods.specs.Nogoods.{Nogoods, Extended, Bad}
 use Rattle.nogoods.proofs.Growth.{extended_refl, extended_trans, extended_map}
@@ -41,7 +41,7 @@ use Rattle.knapsack.specs.Knapsack.{weight_of, Takes, PackedAs}
 use Rattle.knapsack.proofs.Taking.{takes_map}
 use Rattle.knapsack.specs.declared.Weighting.{Weighting}
 use Rattle.bound_cache.specs.declared.Key.{Key}
-use Rattle.bound_cache.specs.BoundCache.{Capped, number_of}
+use Rattle.bound_cache.specs.BoundCache.{weights_at, Capped, number_of}
 use Rattle.capacity_bound.specs.declared.Tightened.{Tightened}
 use Rattle.capacity_bound.specs.Bound.{BoundedAs}
 use Rattle.subgradient.specs.Subgradient.{heaviest}
@@ -49,7 +49,6 @@ use Rattle.capacity_bound.specs.CapacityBound.{packing_fuel, Weights, TopAs, Cov
 use Rattle.capacity_bound.proofs.OpenTasks.{open_on, fair_joins, open_sum_lem}
 use Rattle.schedule.specs.declared.Timing.{Timing}
 use Rattle.rows.specs.declared.Rows.{Rows}
-use Rattle.rows.specs.declared.Measure.{Measure}
 use Rattle.rows.specs.declared.Messages.{Messages}
 
 -- fewer kinds of sets
@@ -80,8 +79,8 @@ tops_start {t} l v f el small tops = record {
 }
 
 -- what a bound for p is worked out from
-abbrev key_of : State → List ℕ → ℕ → Measure → Key
-key_of s sets p measure = record { on = get_or s.on p 0; candidates = get_or sets p 0; measure = measure; space = get_or s.memory p 0; spare = get_or s.load p 0 }
+abbrev key_of : State → List ℕ → ℕ → ℕ → Key
+key_of s sets p row = record { on = get_or s.on p 0; candidates = get_or sets p 0; row = row; space = get_or s.memory p 0; spare = get_or s.load p 0 }
 
 -- what the packing begins with for p
 abbrev pack_of : State → List ℕ → List ℕ → ℕ → ℕ → Pack
@@ -110,8 +109,8 @@ module _ {t : Table} {s : State} {mode : Mode} {weights sets tops list : List �
   }
 
   -- or one that is kept, of late sets
-  pub tight_recalled : {rows : Rows} {measure : Measure} {top most set calls : ℕ} → mode.listing ≡ false → weights ≡ weights_in rows measure → Nogoods (tasks_in t) list count
-      → Capped t rows (key_of s sets p measure) top
+  pub tight_recalled : {rows : Rows} {row top most set calls : ℕ} → mode.listing ≡ false → weights ≡ weights_at rows row → Nogoods (tasks_in t) list count
+      → Capped t rows (key_of s sets p row) top
       → (most ≤ get_or tops p 0) × (most ≤ top) × ((most ≡ get_or tops p 0) ⊎ (most ≡ top)) → TightAs t mode s weights sets tops p list count list (record { most = most; set = set; count = count; calls = calls })
   tight_recalled {top = top} e v w c m = record {
     list = extended_refl w;
@@ -134,9 +133,9 @@ module _ {t : Table} {s : State} {mode : Mode} {weights sets tops list : List �
   }
 
 -- a bound that can be kept
-pub tight_capped : {t : Table} {mode : Mode} {s : State} {weights sets tops old new : List ℕ} {rows : Rows} {measure : Measure} {p before : ℕ} (r : Tightened) → mode.listing ≡ false
-    → weights ≡ weights_in rows measure → TightAs t mode s weights sets tops p old before new r
-    → Capped t rows (key_of s sets p measure) r.most
+pub tight_capped : {t : Table} {mode : Mode} {s : State} {weights sets tops old new : List ℕ} {rows : Rows} {row p before : ℕ} (r : Tightened) → mode.listing ≡ false
+    → weights ≡ weights_at rows row → TightAs t mode s weights sets tops p old before new r
+    → Capped t rows (key_of s sets p row) r.most
 tight_capped {t} {new = new} r e v a = record {
   bounds = λ x w f. rw (← v) (a.bounds x (record { inside = f; takes = takes_map (λ y bad. subst (λ (b : Bool). Bad (tasks_in t) b new r.count y) e bad) w }));
 }

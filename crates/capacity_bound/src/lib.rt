@@ -226,7 +226,7 @@ fn pack_once(
     let key = Key {
         on,
         candidates: sets[p],
-        measure: weighting.measure,
+        row: bound_cache::number_of(weighting.measure),
         space: s.memory[p],
         spare: s.load[p],
     };

@@ -11,4 +11,4 @@ wide-requires c = search rules
 
 pub returns : goal.returns
 unfolding entry_of
-returns c = rw (c.wide.ensures.0, c.wide-2.ensures.0, c.number_of-kind.ensures) (refl, omega arith)
+returns c = rw (c.wide.ensures.0, c.wide-2.ensures.0) (refl, omega arith)
