@@ -1,5 +1,5 @@
 -- The judge's answer has its meaning in the tick run. Assumes nothing.
-use mathlib.Core.Path.{◌≡◌, refl, sym, ap, subst, ◌∙◌}
+use mathlib.Core.Path.{◌≡◌, refl, sym, ap, ap₂, subst, ◌∙◌}
 use mathlib.Core.Logic.{◌≢◌, ◌↔◌}
 use mathlib.Core.List.{List}
 use Prim.Native.Nat.{ℕ, ◌≤◌, ◌<◌}
@@ -179,6 +179,30 @@ zero_concerned (Err r) e = absurd (omega (arith, cause_range r.cause))
 no_cause : (c : Check) (cause : Cause) → check_number c ≡ cause_number cause → ⊥
 no_cause (Ok x) cause e = omega (arith, cause_range cause)
 no_cause (Err b) cause e = omega (arith, cause_range cause, numbers b.rule)
+
+-- number and number concerned tell the check
+same_check : (c d : Check) → check_number c ≡ check_number d → check_concerned c ≡ check_concerned d → c ≡ d
+same_check (Ok x) (Ok y) e f = refl
+same_check (Ok x) (Err b) e f = absurd (omega (arith, numbers b.rule))
+same_check (Err b) (Ok x) e f = absurd (omega (arith, numbers b.rule))
+same_check (Err b) (Err d) e f = ap₂ (λ (r : Rule) (k : ℕ). Err (record { rule = r; number = k })) (same_rule b.rule d.rule e) f
+
+-- a judgement without responses and margins: the check of the rules, or the refusal
+abbrev pub checked : Judgement → Result Check Refusal
+checked (Ok j) = Ok j.check
+checked (Err r) = Err r
+
+-- number and number concerned tell the judgement
+pub same_judgement : (i j : Judgement) → judgement_number i ≡ judgement_number j → concerned_of i ≡ concerned_of j → checked i ≡ checked j
+same_judgement (Ok i) (Ok j) e f = ap (λ (c : Check). Ok c) (same_check i.check j.check e f)
+same_judgement (Ok i) (Err r) e f = absurd (no_cause i.check r.cause e)
+same_judgement (Err r) (Ok j) e f = absurd (no_cause j.check r.cause (sym e))
+same_judgement (Err r) (Err s) e f = ap₂ (λ (c : Cause) (at : ℕ). Err (record { cause = c; place = at })) (same_cause r.cause s.cause e) f
+
+-- only a placement that keeps every rule has the number 0
+pub zero_kept : (j : Judgement) → judgement_number j ≡ 0 → Judges j (λ x. x.check ≡ Ok tt)
+zero_kept (Ok j) e = (j, refl, zero_check j.check e)
+zero_kept (Err r) e = absurd (omega (arith, cause_range r.cause))
 
 -- ---- the judgement of a table that was read
 
