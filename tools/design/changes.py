@@ -9,6 +9,7 @@ import subprocess
 import sys
 
 BASE = sys.argv[1]
+PAGES = ['README.md'] + [f'docs/{name}.md' for name in ('THEOREMS', 'DESIGN', 'DECISIONS', 'EDITS', 'PORT')]
 HEAD = re.compile(r'^ *(?:#\[[^\n]*\]\n *)*(?:pub )?(?:extern "C" )?fn (\w+)', re.M)
 
 
@@ -68,7 +69,7 @@ def definitions(commit):
 
 def theorems(commit):
     """Lemmas of proofs/ that README or a page of docs/ names."""
-    pages = ''.join(text for name in ('README.md', 'docs/THEOREMS.md', 'docs/DESIGN.md', 'docs/DECISIONS.md')
+    pages = ''.join(text for name in PAGES
                     for text in [git('show', f'{commit}:{name}') if commit else open(name).read()])
     named = set(re.findall(r'`(\w+)`', pages)) | set(re.findall(r'^ *pub (\w+) :', pages, re.M))
     found = {}
